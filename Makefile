@@ -6,7 +6,7 @@
 # the specs; `make bench` measures hd, and SQLite beside it; `make dli` makes hdrun, which runs programs that call DL/I, and
 # `make dli-test` tries it; `make install` puts the program, its manual pages and what shells complete below PREFIX, `make install-dli` what programs
 # want, hd.py where Python looks for modules, and `make uninstall` takes them away.
-.PHONY: all run try test program-test install-test serve-test commits-test calls-test files-test crash-test edits examples definitions bench dli dli-test has-room install uninstall install-dli clean
+.PHONY: all run try test program-test install-test serve-test commits-test calls-test salvage-test files-test crash-test edits examples definitions bench dli dli-test has-room install uninstall install-dli clean
 
 SHELL = /bin/bash
 
@@ -53,6 +53,10 @@ files-test: bin/hd
 crash-test: bin/hd
 	python3 tests/crash_test.py bin --images $(or $(IMAGES),2000) --kills $(or $(KILLS),200)
 
+# what hd salvage keeps of damaged volumes. CASES says of how many: 10000 take an hour
+salvage-test: bin/hd
+	python3 tests/salvage_test.py bin/hd --cases $(or $(CASES),300)
+
 # what hd prints and leaves, and its statuses, for the cases of tests/cases
 program-test: bin/hd
 	python3 tests/program_test.py bin/hd
@@ -81,7 +85,7 @@ test:
 	mkdir -p bin
 	TIMEFORMAT='%R s, and %U s of processors' && set -o pipefail && time RT_JOBS=$(LANES) rt ci | tee bin/gate.log
 	python3 make/stamp.py crates/hd/out/hd bin/hd
-	$(MAKE) --no-print-directory -o bin/hd program-test install-test serve-test commits-test calls-test examples $(DLI_TEST)
+	$(MAKE) --no-print-directory -o bin/hd program-test install-test serve-test commits-test calls-test salvage-test examples $(DLI_TEST)
 	@$(if $(DLI_TEST),,echo 'No program in COBOL or C was tried: this machine has no cobc, or no C compiler.' >&2)
 	@tail -n 1 bin/gate.log
 

@@ -4,7 +4,7 @@
     tests/calls_test.py PROGRAM [DECKS [SEED]]
 
 Random databases, programs, volumes and decks are played by hd, with several sizes of its cache, and by the model; so are the lists of worked_lists.txt, whose answers
-stand there, and short decks over volumes of which some bytes were changed, where they pass the check. Each line is compared, and so are the rows that a deck leaves:
+stand there, decks whose arguments are made and damaged by chance, and short decks over volumes of which some bytes were changed, where they pass the check. Each line is compared, and so are the rows that a deck leaves:
 they pass the check, are unloaded, and are reloaded. A difference is told with the smallest deck that was found to show it. The last line tells how
 many calls there were, and how many decks were wrong; the status is 1 if any was.
 """
@@ -16,10 +16,13 @@ import tempfile
 sys.dont_write_bytecode = True
 import worked
 from player import Game, Program, read, rows_of, write
-from random_calls import Random, changed, random_calls, random_game
+from random_calls import Random, argument_game, changed, random_calls, random_game
 
 DECKS = 500
 CALLS = 200
+
+# How many decks of arguments there are for each hundred decks.
+ARGUED = 9
 
 # How many volumes are changed for each hundred decks, in how many ways, and how many calls are made over one that passes.
 CHANGED = 7
@@ -51,6 +54,11 @@ class Tally:
     def play_random(self, seed):
         game = random_game(seed, CALLS)
         self.count(f"deck {seed}", game, game.fault(self.hd))
+
+    def play_arguments(self, seed):
+        """Plays calls with arguments that are made and damaged by chance, of which a fifth mean something at least."""
+        game, meant = argument_game(seed, CALLS)
+        self.count(f"arguments {seed}", game, game.fault(self.hd) or (None if meant * 5 > CALLS else f"{meant} arguments mean something"))
 
     def play_changed(self, seed):
         """Plays over a volume of random rows, with bytes changed in some ways."""
@@ -95,6 +103,8 @@ def main():
         tally.play_lists()
         for seed in range(first, first + decks):
             tally.play_random(seed)
+        for seed in range(first, first + decks * ARGUED // 100):
+            tally.play_arguments(seed)
         for seed in range(first, first + decks * CHANGED // 100):
             tally.play_changed(seed)
     finally:

@@ -34,7 +34,7 @@ DLI_FILES = {"bin/hdrun", "share/man/man1/hdrun.1", "include/ims.h"}
 
 # What bash completes behind words, of which the last is typed in part or not yet; FILES stands for names of files.
 COMPLETED = """
-hd s|serve show stream
+hd s|serve salvage show stream
 hd re|recover reload
 hd --e|--explain
 hd --explain |always never auto

@@ -330,6 +330,86 @@ def random_game(seed, count):
     return game
 
 
+# The fields of the database of arguments, with values, of which some have the signs of arguments in them.
+VALUES = {
+    "COURSE": [(b"NUM     ", [b"101", b"205", b"150", b"1)1"]), (b"TITLE   ", [b"ALGEB", b"LOGIC", b"(*+&)"])],
+    "CLASS": [(b"ED      ", [b"01", b"02", b"03", b"))"])],
+    "STUD": [(b"SNAME   ", [b"ADAM", b"EVE ", b"+++)"])],
+    "BOOK": [],
+}
+ARGUED = [
+    (1, b"1)1LOGIC"), (2, b"))03"), (3, b"+++)02"), (4, b"*+&)("), (1, b"101ALGEB"), (2, b"01AB"), (3, b"ADAM01"), (3, b"EVE 02"),
+    (2, b"02CD"), (4, b"EULER"), (1, b"150(*+&)"), (2, b"03EF"), (3, b"ADAM03"), (1, b"205LOGIC"), (2, b"01GH"),
+]
+
+
+class Arguer:
+    """Makes calls with arguments that a program may write, and some that none should."""
+
+    def __init__(self, random, database, loads):
+        self.random, self.types, self.loads = random, database.types, loads
+
+    def comparison(self, type):
+        """A comparison of a field that the type has, more often than not."""
+        fields = [field for some in VALUES.values() for field in some] + [(b"NONE    ", [b"01"])]
+        if VALUES[type.name] and self.random.chance(80):
+            fields = VALUES[type.name]
+        name, values = self.random.choice(fields)
+        return name + (b"XX" if self.random.chance(4) else self.random.choice(list(OPERATORS))) + self.random.choice(values)
+
+    def argument(self, type):
+        text = b"%-8b" % (b"OTHER" if self.random.chance(5) else type.name.encode())
+        text += self.random.choice([b"", b"", b"", b"*D", b"*L", b"*FL", b"*-N", b"*", b"*X"])
+        if self.random.chance(25):
+            return text
+        if self.random.chance(30):
+            return text + b" "
+        text += b"(" + self.comparison(type)
+        for _ in range(self.random.below(3)):
+            text += self.random.choice([b"*", b"&", b"+", b"|", b"*", b"+", b"x"]) + self.comparison(type)
+        return text + self.random.choice([b")"] * 8 + [b")*", b""])
+
+    def damaged(self, text):
+        """An argument that is changed or cut, one of four times."""
+        at, sort = self.random.below(len(text)), self.random.below(8)
+        if sort == 0:
+            return text[:at]
+        return text[:at] + self.random.choice([b" ", b"*", b"(", b")", b"A", b"0", b"\xff"]) + text[at + 1 :] if sort == 1 else text
+
+    def call(self, number):
+        """A call of a PCB, with up to three arguments of types that descend more often than not."""
+        function = self.random.choice([b"GU", b"GN", b"GHU", b"GHN", b"GNP", b"GHU", b"ISRT", b"ISRT", b"REPL", b"DLET"])
+        types, ssas = list(self.types), []
+        for _ in range(self.random.below(4)):
+            type = self.random.choice(types)
+            below = [other for other in self.types if other.is_below(type)]
+            types = below if below and self.random.chance(80) else list(self.types)
+            ssas.append(self.damaged(self.argument(type)))
+        area = self.random.choice([b"", b"101ALGEB", b"02XY", b"ADAM77", b"GAUSS", b"01XYADAM99", b"303MUSIC04ZZ", b"150GRAPH"])
+        return Call(number, b"ISRT" if self.loads and self.random.chance(80) else function, ssas, area)
+
+
+def argument_game(seed, count):
+    """A game of calls whose arguments are made and damaged by chance, and how many of them have arguments that mean something: by a PCB that sees all, one that
+    does not see students, and one that loads."""
+    random = Random(f"arguments {seed}")
+    number, title, edition, person = Field("NUM", 1, 3), Field("TITLE", 4, 5), Field("ED", 1, 2), Field("SNAME", 1, 4)
+    course = Type(1, "COURSE", None, 8, key=number, unique=True, fields=[number, title])
+    clas = Type(2, "CLASS", course, 4, key=edition, unique=True, fields=[edition])
+    types = [course, clas, Type(3, "STUD", clas, 6, key=person, fields=[person]), Type(4, "BOOK", course, 5)]
+    database, loads = Database("EDU", types), seed % 3 == 2
+    pcbs = [("L", dict.fromkeys(types))] if loads else [("AP", dict.fromkeys(types)), ("A", dict.fromkeys([course, clas, types[3]]))]
+    game = Game(database, pcbs, [] if loads else ARGUED, [])
+    model, lines, meant, arguer = game.model(), [], 0, Arguer(random, database, loads)
+    for place in range(count):
+        call = arguer.call(random.below(len(pcbs)) + 1)
+        game.calls.append(call)
+        lines.append(line(place + 1, call, model.answer(*call)))
+        meant += not lines[-1].split(b"[")[1].startswith((b"AJ", b"AC", b"AK"))
+    game.answered = lines, model
+    return game, meant
+
+
 def changed(random, image):
     """A volume with a byte, or two, changed: a bit is another, it is 0 or 255, one more or less, or any."""
     image = bytearray(image)

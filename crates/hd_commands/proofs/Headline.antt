@@ -1,14 +1,13 @@
 -- The headline.
-use Rattle.std.proofs.Common.{◌≡◌, ℕ, List, [], ◌∷◌, take, inl, inr, refl, ap, sym, ◌∙◌, subst}
+use Rattle.std.proofs.Common.{◌≡◌, ℕ, List, [], ◌∷◌, refl, ap, sym, ◌∙◌, subst}
 use Rattle.hd_dbd.specs.Types.{View}
 use Rattle.hd_dbd.specs.Hierarchy.{Database}
 use Rattle.hd_dbd.specs.Segment.{Segment}
 use Rattle.hd_dbd.specs.Forest.{Forest, sequence}
-use Rattle.hd_dbd.specs.Logs.{Entry, Log}
+use Rattle.hd_dbd.specs.Logs.{Entry}
 use Rattle.hd_calls.specs.Steps.{State}
 use Rattle.hd_calls.specs.NoLostUpdate.{opened}
 use Rattle.hd_calls.specs.Runs.{Holds, ImagesFollow, last_state, next_state}
-use Rattle.hd_stores.specs.Stores.{Committed}
 use Rattle.hd_links.specs.Placed.{Placed, forest_of}
 use Rattle.hd_links.specs.Steps.{rows_of}
 use Rattle.hd_links.proofs.Types.{ordered}
@@ -18,12 +17,10 @@ use Rattle.hd_image.specs.Holding.{HoldsPlaced, volume_of}
 use Rattle.hd_image.proofs.OneImage.{held-same}
 use Rattle.hd_changes.specs.VolumeImages.{images_of}
 use Rattle.hd_session.proofs.Turns.{sessions_answer}
-use Rattle.hd_commands.specs.Headline.{PassesFor, IsAnsweredRun, IsHeadline, ChecksTellOneForest, RunsAnswerTheirLogs, ReloadsPass}
-use Rattle.hd_commands.specs.Crashes.{UnitsLeaveForests, FailedCommitsTryForests, IsCrashLaw}
-use Rattle.hd_commands.proofs.Commits.{crashes}
+use Rattle.hd_commands.specs.Headline.{PassesFor, IsHeadline, ChecksTellOneForest, RunsAnswerTheirLogs, ReloadsPass}
 
 -- an image that holds a placed forest passes for its rows
-passes : (d : Database) (image : List ℕ) (placed : Forest Placed) (rows : List Segment) → HoldsPlaced d (volume_of d image) placed → rows_of placed ≡ rows → PassesFor d image rows
+pub passes : (d : Database) (image : List ℕ) (placed : Forest Placed) (rows : List Segment) → HoldsPlaced d (volume_of d image) placed → rows_of placed ≡ rows → PassesFor d image rows
 passes d image placed rows holds are = record {
   forest = forest_of placed;
   holds = (placed, refl, holds);
@@ -40,7 +37,7 @@ last_holds d pcbs st [] last follow = follow
 last_holds d pcbs st (e ∷ es) last follow = last_holds d pcbs (next_state d.types pcbs st e) es last follow.2
 
 -- so it passes for them
-log_passes : (d : Database) (pcbs : List View) (st : State) (entries : List (Entry (List ℕ))) (last : List ℕ) → ImagesFollow (images_of d) d.types pcbs st entries last
+pub log_passes : (d : Database) (pcbs : List View) (st : State) (entries : List (Entry (List ℕ))) (last : List ℕ) → ImagesFollow (images_of d) d.types pcbs st entries last
     → PassesFor d last (last_state d.types pcbs st entries).rows
 log_passes d pcbs st entries last follow =
     let end = last_holds d pcbs st entries last follow in
@@ -64,28 +61,6 @@ runs d pcbs image turns log left played =
       passes = subst (λ (bytes : List ℕ). PassesFor d bytes (last_state d.types pcbs (opened pcbs (sequence played.forest)) log.entries).rows) played.ends
           (log_passes d pcbs (opened pcbs (sequence played.forest)) log.entries log.last played.legal.follows);
     }
-
-units : (d : Database) → UnitsLeaveForests d
-units d pcbs image turns left part = (part.made, part.log, runs d pcbs image (take part.made turns) part.log left part.played)
-
-tries : (d : Database) → FailedCommitsTryForests d
-tries d pcbs image rows turns log is_sound old new legal (inl same) = inl same
-tries d pcbs image rows turns log is_sound old new legal (inr failed) =
-    inr (
-      ap (λ (c : Committed). c.image) failed.1,
-      subst (λ (bytes : List ℕ). PassesFor d bytes (last_state d.types pcbs (opened pcbs rows) log.entries).rows) (sym (ap (λ (c : Committed). c.tried) failed.1))
-          (log_passes d pcbs (opened pcbs rows) log.entries log.last legal.legal.follows),
-    )
-
-pub crash_law : (d : Database) → IsCrashLaw d
-crash_law d = record {
-  units = units d;
-  commits = λ pcbs image rows turns log is_sound new old committed legal sound done.
-      subst (λ (bytes : List ℕ). PassesFor d bytes (last_state d.types pcbs (opened pcbs rows) log.entries).rows) (sym (done sound).1)
-      (log_passes d pcbs (opened pcbs rows) log.entries log.last legal.legal.follows);
-  failures = tries d;
-  crashes = crashes d;
-}
 
 reloads : (d : Database) → ReloadsPass d
 reloads d stream largest segments blocks image is = (is.rows, is.stream_of, passes d image is.holds.0 is.rows is.holds.2 is.holds.1)

@@ -1,5 +1,5 @@
 mod Saying
 mod UnitSaying
 mod Units
-mod Commits
 pub mod Headline
+mod Commits

@@ -69,7 +69,7 @@ module _ {I : Type 0} where
   memory_of_one x xs ys false is more = rw is more
 
   -- how many of some calls and of others found no memory
-  memory_in_append : (xs ys : List (Entry I)) → memory_in (xs ++ ys) ≡ memory_in xs + memory_in ys
+  pub memory_in_append : (xs ys : List (Entry I)) → memory_in (xs ++ ys) ≡ memory_in xs + memory_in ys
   memory_in_append [] ys = let e : memory_in ys ≡ 0 + memory_in ys = omega arith in e
   memory_in_append (x ∷ xs) ys = memory_of_one x xs ys (is_memory x.outcome) refl (memory_in_append xs ys)
 

@@ -3,5 +3,6 @@ pub mod Deck
 pub mod Lines
 pub mod Printing
 pub mod Runs
+pub mod Commits
 pub mod Spelling
 pub mod Canonical

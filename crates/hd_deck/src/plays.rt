@@ -32,7 +32,7 @@ fn memory_of(answered: &Result<Answer, Refused>) -> Option<u64>
 
 /// One call, and its line, that of a failed access too; how many calls, 0 or 1, found no memory. Where an access failed it is `Device`, whether
 /// or not the line was written.
-fn play_call<S: BlockStore, W: Write>(
+pub(crate) fn play_call<S: BlockStore, W: Write>(
     session: &mut Session<'_, S>,
     pcb: u8,
     call: &Call,

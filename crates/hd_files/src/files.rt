@@ -1,4 +1,4 @@
-ghost use Rattle.std.specs.Prelude.{◌≡◌, ◌<◌, ◌≤◌, ◌^◌, IfOk, vec_len};
+ghost use Rattle.std.specs.Prelude.{◌≡◌, ◌<◌, ◌≤◌, ◌^◌, IsTrue, IfOk, vec_len};
 
 use crate::fault::{FileFault, of_file};
 use crate::input::read_whole;
@@ -242,6 +242,8 @@ pub fn cached<S: RunStore + Drop>(
     store: S,
     cache: u32,
 ) -> Result<Cached<ReadAhead<S>>, FileFault>
+    ensures contents { IfOk result (λ s. IsTrue (S.is_sound store) → s.contents ≡ S.contents store) }
+    ensures sound { IfOk result (λ s. s.is_sound ≡ S.is_sound store) }
     ensures size { IfOk result (λ s. s.size ≡ S.size store) }
 {
     let ahead = ReadAhead::new(alloc, store);

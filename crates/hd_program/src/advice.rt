@@ -1,10 +1,10 @@
 use crate::beginning::Beginning;
+use crate::ink::Ink;
 use crate::sights::{Sight, Sighted, VolumeLength};
 use crate::stop::Stop;
 use crate::stream_command::text_of;
 use hd_commands::Refusal;
-use hd_deck::put_shown;
-use hd_explain::explain;
+use hd_explain::{Explanation, explain};
 use hd_files::{ENDING as NEW_ENDING, LOG_ENDING, Named};
 use hd_words::Request;
 use std::alloc::Global;
@@ -12,78 +12,40 @@ use std::io::{self, ErrorKind, Write};
 
 /// Writes the lines that say more of why the program stops: the file, and what the system said of it, or the line of a text that is refused;
 /// and what the fault's word means.
-pub fn advise_stop<E: Write>(
-    alloc: Global,
-    stop: &Stop,
-    request: &Request<'_>,
-    err: &mut E,
-) -> io::Result<()> {
+pub fn advise_stop<E: Write>(alloc: Global, stop: &Stop, request: &Request<'_>, err: &mut E) {
+    let mut ink = Ink::new(err);
     match stop {
-        Stop::Database(fault, source) => {
-            let fault = format!(in alloc; "{fault}")?;
-            advise_text(request, Named::Dbd, &fault, source, err)
+        Stop::Database(_, source) | Stop::Source(_, source) => {
+            advise_source(alloc, stop, Named::Dbd, source, request, &mut ink);
         }
-        Stop::Program(fault, source) => {
-            let fault = format!(in alloc; "{fault}")?;
-            advise_text(request, Named::Psb, &fault, source, err)
+        Stop::Program(_, source) => {
+            advise_source(alloc, stop, Named::Psb, source, request, &mut ink);
         }
-        Stop::Source(fault, source) => {
-            let fault = format!(in alloc; "{fault}")?;
-            advise_text(request, Named::Dbd, &fault, source, err)
-        }
-        Stop::Deck(fault, text, file) => {
-            let fault = format!(in alloc; "{fault}")?;
-            advise_text(request, *file, &fault, text, err)
-        }
+        Stop::Deck(_, text, file) => advise_source(alloc, stop, *file, text, request, &mut ink),
         Stop::Rows(_, line, text) => {
             let number = usize::try_from(*line).unwrap_or(usize::MAX);
-            advise_line(request.name_of(Named::Rows), number, text, err)
+            put_line(request.name_of(Named::Rows), number, text, &mut ink);
         }
-        // Who closed a pipe wants no more of what goes there.
-        Stop::File(_, error) if error.kind() == ErrorKind::BrokenPipe => Ok(()),
-        Stop::File(file, error) => {
-            let said = format!(in alloc; "{error}")?;
-            put_file(request, *file, err)?;
-            writeln!(err, ": {}", without_number(&said))
-        }
-        Stop::Beside(file, error) => {
-            let said = format!(in alloc; "{error}")?;
-            put_name(request.name_of(*file), err)?;
-            writeln!(err, "{NEW_ENDING}: {}", without_number(&said))
+        Stop::File(_, error) | Stop::Beside(_, error) | Stop::Waiting(error) => {
+            advise_error(alloc, stop, error, request, &mut ink);
         }
         Stop::InUse(file) => {
-            put_name(request.name_of(*file), err)?;
-            writeln!(
-                err,
-                ": another program uses it; try again when that one has ended"
-            )
+            ink.name(request.name_of(*file));
+            ink.put(": another program uses it; try again when that one has ended\n");
         }
         Stop::OtherVolume => {
-            put_file(request, Named::Log, err)?;
-            writeln!(
-                err,
-                ": it was written beside another file; if the two belong together, name it to hd recover, and else remove it"
-            )
+            put_file(request, Named::Log, &mut ink);
+            ink.put(
+                ": it was written beside another file; if the two belong together, name it to hd recover, and else remove it\n",
+            );
         }
         Stop::OtherVersion => {
-            put_file(request, Named::Log, err)?;
-            writeln!(
-                err,
-                ": another version of hd wrote it, which can copy it into the volume"
-            )
+            put_file(request, Named::Log, &mut ink);
+            ink.put(": another version of hd wrote it, which can copy it into the volume\n");
         }
-        Stop::Waiting(error) => {
-            let said = format!(in alloc; "{error}")?;
-            put_file(request, Named::Volume, err)?;
-            writeln!(
-                err,
-                ": {}; who may write it copies the log by hd recover",
-                without_number(&said)
-            )
-        }
-        Stop::OverInput | Stop::Words | Stop::NoType | Stop::Table(_, _, _) => Ok(()),
-        Stop::Frame(_) | Stop::Fields => Ok(()),
-        Stop::Refused(refusal) => advise_refusal(alloc, *refusal, None, request, err),
+        Stop::OverInput | Stop::Words | Stop::NoType | Stop::Table(_, _, _) => {}
+        Stop::Frame(_) | Stop::Fields => {}
+        Stop::Refused(refusal) => advise(alloc, *refusal, None, request, &mut ink),
     }
 }
 
@@ -94,63 +56,112 @@ pub fn advise_refusal<E: Write>(
     seen: Option<&Sight>,
     request: &Request<'_>,
     err: &mut E,
-) -> io::Result<()> {
+) {
+    advise(alloc, refusal, seen, request, &mut Ink::new(err));
+}
+
+/// As `advise_refusal`.
+fn advise<E: Write>(
+    alloc: Global,
+    refusal: Refusal,
+    seen: Option<&Sight>,
+    request: &Request<'_>,
+    ink: &mut Ink<'_, E>,
+) {
     if let Some(Sight::Kind(file, beginning)) = seen {
-        return advise_kind(request.name_of(*file), *file, *beginning, err);
+        put_kind(request.name_of(*file), *file, *beginning, ink);
+        return;
     }
     match refusal {
         Refusal::Fault(fault) => {
-            let number = format!(in alloc; "{}", fault.number())?;
-            advise_fault(&number, seen, err)
+            if let Ok(number) = format!(in alloc; "{}", fault.number()) {
+                put_fault(&number, seen, ink);
+            }
         }
         Refusal::Record(fault, _) => {
-            let name = format!(in alloc; "{fault}")?;
-            advise_word(&name, err)
+            if let Ok(name) = format!(in alloc; "{fault}") {
+                put_word(&name, ink);
+            }
         }
-        Refusal::Full(_) => advise_word("Full", err),
-        Refusal::Old(_) | Refusal::NotEmpty => advise_word("exit1", err),
-        Refusal::Device => advise_word("exit3", err),
-        Refusal::Memory => advise_word("exit4", err),
+        Refusal::Full(_) => put_word("Full", ink),
+        Refusal::Old(_) | Refusal::NotEmpty => put_word("exit1", ink),
+        Refusal::Device => put_word("exit3", ink),
+        Refusal::Memory => put_word("exit4", ink),
     }
+}
+
+/// The text of the fault for which a source or a deck is refused; none where there is no memory for it.
+fn fault_in(alloc: Global, stop: &Stop) -> Option<String> {
+    match stop {
+        Stop::Database(fault, _) | Stop::Program(fault, _) => format!(in alloc; "{fault}").ok(),
+        Stop::Source(fault, _) => format!(in alloc; "{fault}").ok(),
+        Stop::Deck(fault, _, _) => format!(in alloc; "{fault}").ok(),
+        _ => None,
+    }
+}
+
+/// Writes the lines that say more of a source or a deck that is refused.
+fn advise_source<E: Write>(
+    alloc: Global,
+    stop: &Stop,
+    file: Named,
+    text: &[u8],
+    request: &Request<'_>,
+    ink: &mut Ink<'_, E>,
+) {
+    if let Some(fault) = fault_in(alloc, stop) {
+        put_text(request.name_of(file), file, &fault, text, ink);
+    }
+}
+
+/// Writes the line that says more of what the system refused. Who closed a pipe wants no more of what goes there.
+fn advise_error<E: Write>(
+    alloc: Global,
+    stop: &Stop,
+    error: &io::Error,
+    request: &Request<'_>,
+    ink: &mut Ink<'_, E>,
+) {
+    let Ok(said) = format!(in alloc; "{error}") else {
+        return;
+    };
+    let behind = match stop {
+        Stop::File(_, _) if error.kind() == ErrorKind::BrokenPipe => return,
+        Stop::File(file, _) => {
+            put_file(request, *file, ink);
+            "\n"
+        }
+        Stop::Beside(file, _) => {
+            ink.name(request.name_of(*file));
+            ink.put(NEW_ENDING);
+            "\n"
+        }
+        _ => {
+            put_file(request, Named::Volume, ink);
+            "; who may write it copies the log by hd recover\n"
+        }
+    };
+    ink.put(": ");
+    ink.put(without_number(&said));
+    ink.put(behind);
 }
 
 /// Writes the name of one of a command's files at the beginning of a line; a log that was not named has that of the volume.
-fn put_file<E: Write>(request: &Request<'_>, file: Named, err: &mut E) -> io::Result<()> {
+fn put_file<E: Write>(request: &Request<'_>, file: Named, ink: &mut Ink<'_, E>) {
     match (file, request) {
-        (Named::Log, Request::Recover { log: Some(log), .. }) => put_name(log, err),
+        (Named::Log, Request::Recover { log: Some(log), .. }) => ink.name(log),
         (Named::Log, _) => {
-            put_name(request.name_of(Named::Volume), err)?;
-            write!(err, "{LOG_ENDING}")
+            ink.name(request.name_of(Named::Volume));
+            ink.put(LOG_ENDING);
         }
-        _ => put_name(request.name_of(file), err),
+        _ => ink.name(request.name_of(file)),
     }
-}
-
-/// The most characters of a name that are looked at.
-const MOST_CHARACTERS: usize = 65_536;
-
-/// Writes the name of a file at the beginning of a line, so that each of its characters is seen: a control character as `\x` and hexadecimal digits.
-fn put_name<E: Write>(name: &str, err: &mut E) -> io::Result<()> {
-    write!(err, "  ")?;
-    for character in name.chars().take(MOST_CHARACTERS) {
-        if character.is_control() {
-            write!(err, "\\x{:02x}", u32::from(character))?;
-        } else {
-            write!(err, "{character}")?;
-        }
-    }
-    Ok(())
 }
 
 /// Writes that a file is something else than what its word wants.
-fn advise_kind<E: Write>(
-    name: &str,
-    file: Named,
-    beginning: Beginning,
-    err: &mut E,
-) -> io::Result<()> {
+fn put_kind<E: Write>(name: &str, file: Named, beginning: Beginning, ink: &mut Ink<'_, E>) {
     let Some(found) = beginning.words() else {
-        return Ok(());
+        return;
     };
     let wanted = match file {
         Named::Dbd => "DBD source",
@@ -159,74 +170,82 @@ fn advise_kind<E: Write>(
         Named::Stream => "unload stream",
         _ => "deck",
     };
-    put_name(name, err)?;
-    writeln!(err, ": this is {found}, and no {wanted}")
+    ink.name(name);
+    ink.put(": this is ");
+    ink.put(found);
+    ink.put(", and no ");
+    ink.put(wanted);
+    ink.put("\n");
 }
 
 /// Writes the line of a text that a fault names, and what the fault's word means; or that it is no text but a volume or a stream.
-fn advise_text<E: Write>(
-    request: &Request<'_>,
-    file: Named,
-    fault: &str,
-    text: &[u8],
-    err: &mut E,
-) -> io::Result<()> {
-    let name = request.name_of(file);
+fn put_text<E: Write>(name: &str, file: Named, fault: &str, text: &[u8], ink: &mut Ink<'_, E>) {
     let beginning = Beginning::of(text);
     if let Beginning::Volume | Beginning::Stream = beginning {
-        return advise_kind(name, file, beginning, err);
+        put_kind(name, file, beginning, ink);
+        return;
     }
     let word = word_of(fault);
     if let Some(number) = line_of(fault) {
-        advise_line(name, number, text, err)?;
+        put_line(name, number, text, ink);
         if word == "G1" && begins_in_column_1(line_at(text, number)) {
-            writeln!(
-                err,
-                "  what begins in column 1 is a label: put a blank in front of the operation"
-            )?;
+            ink.put(
+                "  what begins in column 1 is a label: put a blank in front of the operation\n",
+            );
         }
     }
-    advise_word(word, err)
+    put_word(word, ink);
 }
 
 /// Writes a line of a text, behind the name of the text's file and the line's number.
-fn advise_line<E: Write>(name: &str, number: usize, text: &[u8], err: &mut E) -> io::Result<()> {
-    put_name(name, err)?;
-    write!(err, ":{number}: ")?;
-    let Ok(()) = put_shown(err, line_at(text, number)) else {
-        return Ok(());
-    };
-    writeln!(err)
+fn put_line<E: Write>(name: &str, number: usize, text: &[u8], ink: &mut Ink<'_, E>) {
+    ink.name(name);
+    ink.put(":");
+    ink.number(number as u64);
+    ink.put(": ");
+    ink.shown(line_at(text, number));
+    ink.put("\n");
 }
 
 /// Writes what a word means, where that is known.
-fn advise_word<E: Write>(word: &str, err: &mut E) -> io::Result<()> {
-    match explain(word) {
-        Some(entry) => writeln!(
-            err,
-            "  {}: {}; hd explain {} says more",
-            entry.word, entry.summary, entry.word
-        ),
-        None => Ok(()),
+fn put_word<E: Write>(word: &str, ink: &mut Ink<'_, E>) {
+    if let Some(entry) = explain(word) {
+        put_entry(entry, ink);
+        put_more(entry, ink);
     }
+}
+
+/// Writes a word and what it means.
+fn put_entry<E: Write>(entry: &Explanation, ink: &mut Ink<'_, E>) {
+    ink.put("  ");
+    ink.put(entry.word);
+    ink.put(": ");
+    ink.put(entry.summary);
+}
+
+/// Writes which command says more of a word.
+fn put_more<E: Write>(entry: &Explanation, ink: &mut Ink<'_, E>) {
+    ink.put("; hd explain ");
+    ink.put(entry.word);
+    ink.put(" says more\n");
 }
 
 /// Writes what a fault of a volume means, and what is seen at its place.
-fn advise_fault<E: Write>(word: &str, seen: Option<&Sight>, err: &mut E) -> io::Result<()> {
+fn put_fault<E: Write>(word: &str, seen: Option<&Sight>, ink: &mut Ink<'_, E>) {
     let Some(entry) = explain(word) else {
-        return Ok(());
+        return;
     };
-    write!(err, "  {}: {}", entry.word, entry.summary)?;
+    put_entry(entry, ink);
     match seen {
-        Some(Sight::Segment(segment)) => advise_segment(segment, err)?,
-        Some(Sight::Length(length)) => advise_length(*length, err)?,
+        Some(Sight::Segment(segment)) => put_segment(segment, ink),
+        Some(Sight::Length(length)) => put_length(*length, ink),
         Some(Sight::Kind(_, _)) | None => {}
     }
-    writeln!(err, "; hd explain {} says more", entry.word)
+    put_more(entry, ink);
 }
 
 /// Writes how long a volume's file should be, where it is not so long.
-fn advise_length<E: Write>(length: VolumeLength, err: &mut E) -> io::Result<()> {
+fn put_length<E: Write>(length: VolumeLength, ink: &mut Ink<'_, E>) {
     let VolumeLength {
         found,
         blocks,
@@ -235,38 +254,39 @@ fn advise_length<E: Write>(length: VolumeLength, err: &mut E) -> io::Result<()> 
     } = length;
     let asked = u64::from(blocks).saturating_mul(u64::from(size));
     if found < u64::from(block_size) {
-        write!(
-            err,
-            "; the file has {found} bytes, and a block {block_size}"
-        )
+        ink.put("; the file has ");
+        ink.number(found);
+        ink.put(" bytes, and a block ");
+        ink.number(u64::from(block_size));
     } else if size != block_size {
-        write!(
-            err,
-            "; the header tells of blocks of {size} bytes, and the DBD of {block_size}"
-        )
+        ink.put("; the header tells of blocks of ");
+        ink.number(u64::from(size));
+        ink.put(" bytes, and the DBD of ");
+        ink.number(u64::from(block_size));
     } else if asked != found {
-        write!(
-            err,
-            "; the header asks for {blocks} blocks of {size} bytes, {asked} in all, and the file has {found}"
-        )
-    } else {
-        Ok(())
+        ink.put("; the header asks for ");
+        ink.number(u64::from(blocks));
+        ink.put(" blocks of ");
+        ink.number(u64::from(size));
+        ink.put(" bytes, ");
+        ink.number(asked);
+        ink.put(" in all, and the file has ");
+        ink.number(found);
     }
 }
 
 /// Writes where a segment stands, and its type and key.
-fn advise_segment<E: Write>(seen: &Sighted, err: &mut E) -> io::Result<()> {
-    let address = seen.address;
-    let name = text_of(&seen.name);
-    write!(err, "; the segment at {address} is of type {name}")?;
+fn put_segment<E: Write>(seen: &Sighted, ink: &mut Ink<'_, E>) {
+    ink.put("; the segment at ");
+    ink.number(u64::from(seen.address));
+    ink.put(" is of type ");
+    ink.put(text_of(&seen.name));
     if seen.key.is_empty() {
-        return Ok(());
+        return;
     }
-    write!(err, " with the key \"")?;
-    let Ok(()) = put_shown(err, &seen.key) else {
-        return Ok(());
-    };
-    write!(err, "\"")
+    ink.put(" with the key \"");
+    ink.shown(&seen.key);
+    ink.put("\"");
 }
 
 /// The word of a text's fault, which stands last, as in `line 10, M4` and `type 1, B6`.

@@ -7,9 +7,9 @@ use crate::stop::Stop;
 use crate::volume_store::open_to_read;
 use hd_commands::{Ended, check_volume};
 use hd_dbd::Dbd;
-use hd_files::cached_blocks;
+use hd_files::{cached, file_blocks};
 use hd_output::Progress;
-use hd_stores::{BlockStore, Counted};
+use hd_stores::{BlockStore, Counted, RunStore};
 use hd_volume::Volume;
 use std::alloc::Global;
 use std::fs::File;
@@ -33,38 +33,82 @@ pub fn load_volume<S: BlockStore + Drop>(
     }
 }
 
+/// Checks the volume in a store.
+fn judge<S: BlockStore + Drop, O: Write, E: Write>(
+    alloc: Global,
+    dbd: &Dbd,
+    store: S,
+    out: &mut O,
+    err: &mut E,
+) -> Result<Ended, Stop>
+    requires { S.size store ≡ dbd.now.block_size }
+{
+    let mut volume = load_volume(alloc, dbd, store)?;
+    Ok(check_volume(alloc, &mut volume, dbd, out, err))
+}
+
+/// Checks the volume in a store, and tells of its accesses.
+fn judge_counted<S: BlockStore + Drop, P: Progress, O: Write, E: Write>(
+    alloc: Global,
+    dbd: &Dbd,
+    store: S,
+    progress: &P,
+    out: &mut O,
+    err: &mut E,
+) -> Result<Ended, Stop>
+    requires { S.size store ≡ dbd.now.block_size }
+{
+    let store = Counted::new(store, "checking", progress);
+    judge(alloc, dbd, store, out, err)
+}
+
+/// Checks the volume in a store, with a cache of so many blocks before it.
+fn judge_cached<S: RunStore + Drop, P: Progress, O: Write, E: Write>(
+    alloc: Global,
+    dbd: &Dbd,
+    store: S,
+    cache: u32,
+    progress: &P,
+    out: &mut O,
+    err: &mut E,
+) -> Result<Ended, Stop>
+    requires { S.size store ≡ dbd.now.block_size }
+{
+    let store = cached(alloc, store, cache)?;
+    judge_counted(alloc, dbd, store, progress, out, err)
+}
+
 /// Checks the volume in a file, with a ledger for the accesses that fail.
-fn judge<L: Ledger, R: Files<File = File>, P: Progress, O: Write, E: Write>(
-    console: &mut Console<'_, R, P, O, E>,
+fn judge_blocks<L: Ledger, P: Progress, O: Write, E: Write>(
+    alloc: Global,
     dbd: &Dbd,
     file: File,
     cache: u32,
     blank: Blank,
+    progress: &P,
+    out: &mut O,
+    err: &mut E,
 ) -> Result<Ended, Stop>
     requires name { blank.name ≡ L.name }
     requires parts { blank.parts ≡ L.parts }
     requires share { 0 < blank.parts }
 {
-    let store = cached_blocks::<L>(console.alloc, dbd, file, cache, blank)?;
-    let store = Counted::new(store, "checking", console.progress);
-    let mut volume = load_volume(console.alloc, dbd, store)?;
-    Ok(check_volume(
-        console.alloc,
-        &mut volume,
-        dbd,
-        &mut *console.out,
-        &mut *console.err,
-    ))
+    let store = file_blocks::<L>(dbd, file, blank)?;
+    judge_cached(alloc, dbd, store, cache, progress, out, err)
 }
 
-/// As `judge`, with a ledger of its own.
-fn judge_file<R: Files<File = File>, P: Progress, O: Write, E: Write>(
-    console: &mut Console<'_, R, P, O, E>,
+/// As `judge_blocks`, with a ledger of its own.
+fn judge_file<P: Progress, O: Write, E: Write>(
+    alloc: Global,
     dbd: &Dbd,
     file: File,
     cache: u32,
+    progress: &P,
+    out: &mut O,
+    err: &mut E,
 ) -> Result<Ended, Stop> {
-    judge::<Brand, R, P, O, E>(console, dbd, file, cache, Blank::new(1))
+    let blank = Blank::new(1);
+    judge_blocks::<Brand, P, O, E>(alloc, dbd, file, cache, blank, progress, out, err)
 }
 
 /// Checks the volume in a file, which is opened for reading alone. The DBD is read and judged first. Says how it ended.
@@ -82,5 +126,14 @@ where
 {
     let (dbd, _) = read_database(console.rt, console.alloc, dbd)?;
     let (file, _) = open_to_read(console, volume)?;
-    judge_file(console, &dbd, file, cache.unwrap_or(CACHE))
+    let cache = cache.unwrap_or(CACHE);
+    judge_file(
+        console.alloc,
+        &dbd,
+        file,
+        cache,
+        console.progress,
+        &mut *console.out,
+        &mut *console.err,
+    )
 }

@@ -1,12 +1,14 @@
 use crate::advice::{advise_refusal, advise_stop};
 use crate::check_command::check_file;
 use crate::console::Console;
+use crate::copy_command::copy_file;
 use crate::deck_command::{play_file, play_sample};
 use crate::explain_command::explain_word;
 use crate::operands_command::list_operands;
 use crate::recover_command::recover_file;
 use crate::reload_command::reload_file;
 use crate::rows_command::list_rows;
+use crate::salvage_command::salvage_file;
 use crate::serve_command::serve_file;
 use crate::show_command::{show_database, show_volume};
 use crate::sights::see_refused;
@@ -68,7 +70,7 @@ where
         Err(stop) => stopped(stop, &mut err),
     };
     if says_more {
-        let _ = say_more(rt, performed, out.last_error(), &request, &mut err);
+        say_more(rt, performed, out.last_error(), &request, &mut err);
     }
     status
 }
@@ -100,13 +102,13 @@ fn say_more<R, E>(
     said: Option<io::Error>,
     request: &Request<'_>,
     err: &mut E,
-) -> io::Result<()>
+)
 where
     R: Files<File = File> + AllocGlobal,
     E: Write,
 {
     let stop = match performed {
-        Ok(Ended { refusal: None, .. }) => return Ok(()),
+        Ok(Ended { refusal: None, .. }) => return,
         Ok(
             Ended {
                 refusal: Some(refusal),
@@ -168,7 +170,7 @@ where
 {
     let (rt, alloc) = (console.rt, console.alloc);
     match request {
-        Request::Sample => play_sample(console, input),
+        Request::Sample => play_sample(alloc, input, &mut *console.out, &mut *console.err),
         Request::Deck {
             dbd,
             psb,
@@ -199,6 +201,20 @@ where
             cache,
             syncs,
         } => unload_file(console, dbd, volume, stream, cache, syncs),
+        Request::Copy {
+            dbd,
+            volume,
+            out: copy,
+            cache,
+            syncs,
+        } => copy_file(console, dbd, volume, copy, cache, syncs),
+        Request::Salvage {
+            dbd,
+            volume,
+            out: stream,
+            cache,
+            syncs,
+        } => salvage_file(console, dbd, volume, stream, cache, syncs),
         Request::Reload {
             dbd,
             input,

@@ -13,10 +13,3 @@ pub struct Console<'c, R: Files<File = File>, P: Progress, O: Write, E: Write> {
     pub out: &'c mut O,
     pub err: &'c mut E,
 }
-
-/// How the blocks of a volume are kept: at most so many in memory, and what is changed on the disk too before the command ends.
-#[derive(Clone, Copy)]
-pub struct Keeping {
-    pub cache: u32,
-    pub syncs: bool,
-}

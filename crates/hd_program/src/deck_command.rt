@@ -1,22 +1,26 @@
-ghost use Rattle.std.specs.Prelude.{◌≡◌, ◌<◌, ◌≤◌, ◌^◌, length, All, IfOk};
+ghost use Rattle.std.specs.Prelude.{◌≡◌, ◌<◌, ◌≤◌, ◌^◌, length, All, IsTrue, IfOk};
 ghost use Rattle.hd_dbd.specs.ProgramRules.{type_names};
 ghost use Rattle.hd_deck.specs.StepText.{StepFits};
 
-use crate::console::{Console, Keeping};
+use crate::console::Console;
 use crate::dbd_source::{blocks_for_calls, read_database};
 use crate::lines::{DEVICE_FAILED, LINE};
 use crate::sample;
 use crate::stop::Stop;
-use crate::volume_store::{close_store, open_store, tell_waiting};
+use crate::volume_store::{
+    close_files, close_store, not_opened, open_files, open_store, tell_waiting,
+};
 use hd_commands::{Ended, Refusal, play_deck, play_unit, status_of_calls};
 use hd_dbd::{Dbd, Psb};
 use hd_deck::{Step, read_deck};
-use hd_files::{Held, Identity, Named, OpenVolume, open_volume, read_file, read_whole};
+use hd_files::{Held, Identity, Left, Named, VolumeFiles, open_volume, read_file, read_whole};
 use hd_gen::read_psb;
+use hd_journal::{Disk, Journaled, Unopened};
 use hd_output::{Answers, Pieces, Progress, Silent};
+use hd_stores::BlockStore;
 use std::alloc::Global;
 use std::fs::File;
-use std::io::{Read, Write};
+use std::io::{self, Read, Write};
 use std::marker::Brand;
 use std::rt::Files;
 use std::sync::ledger::{Blank, Ledger};
@@ -51,41 +55,67 @@ fn end_of(played: Result<u64, Ended>) -> Ended {
     }
 }
 
-/// Plays the deck that a reader holds over the sample, in memory. Says how it ended.
-pub fn play_sample<R, P, I, O, E>(
-    console: &mut Console<'_, R, P, O, E>,
-    input: &mut I,
-) -> Result<Ended, Stop>
-where
-    R: Files<File = File>,
-    P: Progress,
-    I: Read,
-    O: Write,
-    E: Write,
+/// The sample database, and the sample program.
+fn read_sample(alloc: Global) -> Result<(Dbd, Psb), Stop>
+    ensures { IfOk result (λ p. p.1.made_for ≡ type_names p.0.types) }
 {
-    let alloc = console.alloc;
-    let dbd = sample::database(alloc).map_err(|fault| Stop::database(fault, Vec::new(alloc)))?;
-    let psb = sample::program(alloc, &dbd).map_err(|fault| Stop::program(fault, Vec::new(alloc)))?;
+    let dbd = match sample::database(alloc) {
+        Ok(dbd) => dbd,
+        Err(fault) => return Err(Stop::database(fault, Vec::new(alloc))),
+    };
+    match sample::program(alloc, &dbd) {
+        Ok(psb) => Ok((dbd, psb)),
+        Err(fault) => Err(Stop::program(fault, Vec::new(alloc))),
+    }
+}
+
+/// The steps of the deck that a reader holds, for a program of so many PCBs.
+fn read_input<I: Read>(alloc: Global, pcbs: u8, input: &mut I) -> Result<Vec<Step>, Stop>
+    requires { 0 < pcbs }
+    ensures fit { IfOk result (λ s. All (StepFits pcbs) s.items) }
+    ensures few { IfOk result (λ s. length s.items ≤ 2 ^ 30) }
+{
     let text = match read_whole(alloc, input) {
         Ok(text) => text,
         Err(error) => return Err(Stop::file(Named::Input, error)),
     };
-    let steps = match read_deck(alloc, &text, psb.pcbs().len() as u8) {
-        Ok(steps) => steps,
-        Err(fault) => return Err(Stop::deck(fault, text, Named::Input)),
-    };
+    match read_deck(alloc, &text, pcbs) {
+        Ok(steps) => Ok(steps),
+        Err(fault) => Err(Stop::deck(fault, text, Named::Input)),
+    }
+}
+
+/// Plays a deck over a store, which is then of no more use.
+fn play_over_blocks<S: BlockStore + Drop, O: Write, E: Write>(
+    alloc: Global,
+    dbd: &Dbd,
+    psb: &Psb,
+    steps: &[Step],
+    store: S,
+    out: &mut O,
+    err: &mut E,
+) -> Ended
+    requires size { S.size store ≡ dbd.now.block_size }
+    requires matches { psb.now.made_for ≡ type_names dbd.now.types }
+    requires steps { All (StepFits (length psb.now.pcbs)) steps.now }
+    requires count { length steps.now ≤ 2 ^ 30 }
+{
+    let (_, played) = play_deck(alloc, dbd, psb, steps, store, out, err);
+    end_of(played)
+}
+
+/// Plays the deck that a reader holds over the sample, in memory. Says how it ended.
+pub fn play_sample<I: Read, O: Write, E: Write>(
+    alloc: Global,
+    input: &mut I,
+    out: &mut O,
+    err: &mut E,
+) -> Result<Ended, Stop> {
+    let (dbd, psb) = read_sample(alloc)?;
+    let steps = read_input(alloc, psb.pcbs().len() as u8, input)?;
     let store = sample::volume(alloc, &dbd)?;
-    let mut lines = lines_into(alloc, &mut *console.out, &steps, &Silent)?;
-    let (_, played) = play_deck(
-        alloc,
-        &dbd,
-        &psb,
-        &steps,
-        store,
-        &mut lines,
-        &mut *console.err,
-    );
-    Ok(end_of(played))
+    let mut lines = lines_into(alloc, out, &steps, &Silent)?;
+    Ok(play_over_blocks(alloc, &dbd, &psb, &steps, store, &mut lines, err))
 }
 
 /// The program over a database that a file of its source describes.
@@ -122,16 +152,156 @@ fn read_steps<R: Files<File = File>>(
     }
 }
 
-/// Plays a deck as one unit over the volume in a file and its log, with a ledger for the accesses that fail. What its calls changed is then committed, on
-/// the disk if that is wanted; only then the last lines of its calls go out.
-fn play_over<L: Ledger, R: Files<File = File>, P: Progress, O: Write, E: Write>(
-    console: &mut Console<'_, R, P, O, E>,
+/// The lines of a deck's calls, whose last go out when they are let go, and room for what is said at the end.
+fn held_lines<'p, O: Write, P: Progress>(
+    alloc: Global,
+    out: &'p mut O,
+    steps: &[Step],
+    progress: &'p P,
+) -> Result<(Held<Answers<'p, Pieces<&'p mut O>, P>>, Vec<u8>), Stop> {
+    let lines = lines_into(alloc, out, steps, progress)?;
+    let said = Vec::with_capacity(alloc, LINE)?;
+    Ok((Held::over(lines), said))
+}
+
+/// What came of a deck that was played over a volume and its log: how it ended and what is said of that, whether the last lines of its calls went out, and
+/// whether all commits are in the volume.
+#[derive(Drop)]
+struct Played {
+    ended: Ended,
+    said: Vec<u8>,
+    released: io::Result<()>,
+    settled: Result<(), ()>,
+}
+
+/// Why a deck was not played over a volume and its log.
+#[derive(Clone, Copy)]
+enum Unplayed {
+    Unopened(Unopened),
+    Memory,
+}
+
+/// Plays a deck as one unit over a store, through a cache of so many blocks. What its calls changed is then committed.
+fn play_store<D: Disk, L: Ledger, P: Progress, O: Write>(
+    alloc: Global,
     dbd: &Dbd,
     psb: &Psb,
     steps: &[Step],
-    volume: OpenVolume<'_, R>,
-    keeping: Keeping,
+    store: Journaled<D, L>,
+    cache: u32,
+    progress: &P,
+    out: &mut O,
+    said: &mut Vec<u8>,
+) -> (Journaled<D, L>, Ended)
+    requires size { store.size ≡ dbd.now.block_size }
+    requires matches { psb.now.made_for ≡ type_names dbd.now.types }
+    requires steps { All (StepFits (length psb.now.pcbs)) steps.now }
+    requires count { length steps.now ≤ 2 ^ 30 }
+{
+    let cache = cache.clamp(1, 65_536) as usize;
+    let (store, played) = play_unit(alloc, dbd, psb, steps, store, cache, progress, out, said);
+    (store, end_of(played))
+}
+
+/// Plays a deck as one unit over a store. Only when what its calls changed is committed the last of its lines go out.
+fn play_held<D: Disk, L: Ledger, P: Progress, O: Write>(
+    alloc: Global,
+    dbd: &Dbd,
+    psb: &Psb,
+    steps: &[Step],
+    store: Journaled<D, L>,
+    cache: u32,
+    progress: &P,
+    lines: &mut Held<O>,
+    said: Vec<u8>,
+) -> (D, Played)
+    requires size { store.size ≡ dbd.now.block_size }
+    requires matches { psb.now.made_for ≡ type_names dbd.now.types }
+    requires steps { All (StepFits (length psb.now.pcbs)) steps.now }
+    requires count { length steps.now ≤ 2 ^ 30 }
+{
+    let mut said = said;
+    let (store, ended) = play_store(
+        alloc, dbd, psb, steps, store, cache, progress, lines, &mut said,
+    );
+    let released = lines.release();
+    let (disk, settled) = close_store(store);
+    let played = Played {
+        ended,
+        said,
+        released,
+        settled,
+    };
+    (disk, played)
+}
+
+/// Plays a deck as one unit over a volume and its log, in which a program left this, with a ledger for the accesses that fail.
+fn play_disk<D: Disk, L: Ledger, P: Progress, O: Write, E: Write>(
+    alloc: Global,
+    dbd: &Dbd,
+    psb: &Psb,
+    steps: &[Step],
+    disk: D,
+    left: Left,
+    cache: u32,
     blank: Blank,
+    progress: &P,
+    out: &mut O,
+    err: &mut E,
+) -> (D, Result<Played, Unplayed>)
+    requires usable { IsTrue (D.is_usable disk) }
+    requires name { blank.name ≡ L.name }
+    requires parts { blank.parts ≡ L.parts }
+    requires share { 0 < blank.parts }
+    requires matches { psb.now.made_for ≡ type_names dbd.now.types }
+    requires steps { All (StepFits (length psb.now.pcbs)) steps.now }
+    requires count { length steps.now ≤ 2 ^ 30 }
+{
+    let store: Journaled<D, L> = match open_store(alloc, dbd, disk, left, blank, err) {
+        Ok(store) => store,
+        Err((disk, unopened)) => return (disk, Err(Unplayed::Unopened(unopened))),
+    };
+    let Ok((mut lines, said)) = held_lines(alloc, out, steps, progress) else {
+        return (store.into_disk(), Err(Unplayed::Memory));
+    };
+    let (disk, played) = play_held(
+        alloc, dbd, psb, steps, store, cache, progress, &mut lines, said,
+    );
+    (disk, Ok(played))
+}
+
+/// How a deck ended over files of which the system said this, if it refused an access.
+fn ended_with<E: Write>(
+    played: Played,
+    error: Option<io::Error>,
+    err: &mut E,
+) -> Result<Ended, Stop> {
+    match (played.ended.status, error) {
+        (DEVICE_FAILED, Some(error)) => return Err(Stop::File(Named::Volume, error)),
+        (DEVICE_FAILED, None) => {}
+        _ => {
+            played.released?;
+            tell_waiting(played.settled, err);
+        }
+    }
+    let _ = err.write_all(&played.said);
+    Ok(played.ended)
+}
+
+/// Plays a deck as one unit over the files of a volume, in whose log a program left this, with a ledger for the accesses that fail. What its calls changed is
+/// then committed, on the disk if that is wanted; only then the last lines of its calls go out.
+fn play_over<L: Ledger, R: Files<File = File>, P: Progress, O: Write, E: Write>(
+    alloc: Global,
+    dbd: &Dbd,
+    psb: &Psb,
+    steps: &[Step],
+    files: VolumeFiles<'_, R>,
+    left: Left,
+    cache: u32,
+    blank: Blank,
+    progress: &P,
+    out: &mut O,
+    err: &mut E,
 ) -> Result<Ended, Stop>
     requires name { blank.name ≡ L.name }
     requires parts { blank.parts ≡ L.parts }
@@ -140,43 +310,40 @@ fn play_over<L: Ledger, R: Files<File = File>, P: Progress, O: Write, E: Write>(
     requires steps { All (StepFits (length psb.now.pcbs)) steps.now }
     requires count { length steps.now ≤ 2 ^ 30 }
 {
-    let (alloc, progress) = (console.alloc, console.progress);
-    let store = open_store::<L, R, P, O, E>(console, dbd, volume, keeping.syncs, blank)?;
-    let mut lines = Held::over(lines_into(alloc, &mut *console.out, steps, progress)?);
-    let mut said = Vec::with_capacity(alloc, LINE)?;
-    let cache = keeping.cache.clamp(1, 65_536) as usize;
-    let (store, played) = play_unit(
-        alloc, dbd, psb, steps, store, cache, progress, &mut lines, &mut said,
+    let (files, played) = play_disk::<VolumeFiles<'_, R>, L, P, O, E>(
+        alloc, dbd, psb, steps, files, left, cache, blank, progress, out, err,
     );
-    let released = lines.release();
-    let ended = end_of(played);
-    let (settled, error) = close_store(store);
-    match (ended.status, error) {
-        (DEVICE_FAILED, Some(error)) => return Err(Stop::File(Named::Volume, error)),
-        (DEVICE_FAILED, None) => {}
-        _ => {
-            released?;
-            tell_waiting(settled, &mut *console.err);
+    match played {
+        Ok(played) => {
+            let error = close_files(files, played.settled);
+            ended_with(played, error, err)
         }
+        Err(Unplayed::Unopened(unopened)) => Err(not_opened(files, unopened)),
+        Err(Unplayed::Memory) => Err(Stop::from(Refusal::Memory)),
     }
-    let _ = console.err.write_all(&said);
-    Ok(ended)
 }
 
 /// As `play_over`, with a ledger of its own.
-fn play_over_file<R: Files<File = File>, P: Progress, O: Write, E: Write>(
-    console: &mut Console<'_, R, P, O, E>,
+fn play_own<R: Files<File = File>, P: Progress, O: Write, E: Write>(
+    alloc: Global,
     dbd: &Dbd,
     psb: &Psb,
     steps: &[Step],
-    volume: OpenVolume<'_, R>,
-    keeping: Keeping,
+    files: VolumeFiles<'_, R>,
+    left: Left,
+    cache: u32,
+    progress: &P,
+    out: &mut O,
+    err: &mut E,
 ) -> Result<Ended, Stop>
     requires matches { psb.now.made_for ≡ type_names dbd.now.types }
     requires steps { All (StepFits (length psb.now.pcbs)) steps.now }
     requires count { length steps.now ≤ 2 ^ 30 }
 {
-    play_over::<Brand, R, P, O, E>(console, dbd, psb, steps, volume, keeping, Blank::new(1))
+    let blank = Blank::new(1);
+    play_over::<Brand, R, P, O, E>(
+        alloc, dbd, psb, steps, files, left, cache, blank, progress, out, err,
+    )
 }
 
 /// Plays the deck in a file over the volume in another, as one unit. The DBD, the PSB and the deck are read and judged first,
@@ -202,12 +369,17 @@ where
     let (steps, text) = read_steps(rt, alloc, psb.pcbs().len() as u8, deck)?;
     let volume = open_volume(rt, volume, &[source, program, text])?;
     let cache = cache.unwrap_or(blocks_for_calls(&dbd));
-    play_over_file(
-        console,
+    let (files, left) = open_files(alloc, volume, syncs)?;
+    play_own(
+        alloc,
         &dbd,
         &psb,
         &steps,
-        volume,
-        Keeping { cache, syncs },
+        files,
+        left,
+        cache,
+        console.progress,
+        &mut *console.out,
+        &mut *console.err,
     )
 }

@@ -1,14 +1,14 @@
-ghost use Rattle.std.specs.Prelude.{◌≡◌, ◌<◌};
+ghost use Rattle.std.specs.Prelude.{◌≡◌, ◌<◌, [], IsTrue};
 
 use crate::console::Console;
 use crate::dbd_source::{CACHE, read_database};
 use crate::lines::{DEVICE_FAILED, Lines};
 use crate::stop::Stop;
 use hd_commands::{Ended, reload_store};
-use hd_dbd::Dbd;
-use hd_files::{Named, Output, Wanted, cached_blocks, of_file, read_file};
+use hd_dbd::{Dbd, Refused};
+use hd_files::{FileFault, Named, Output, Wanted, cached, file_blocks, of_file, read_file};
 use hd_output::Progress;
-use hd_stores::Counted;
+use hd_stores::{BlockStore, Counted, RunStore};
 use std::alloc::Global;
 use std::fs::File;
 use std::io::Write;
@@ -16,8 +16,63 @@ use std::marker::Brand;
 use std::rt::Files;
 use std::sync::ledger::{Blank, Ledger};
 
+/// Loads a stream into an empty store, and gives the store back.
+fn fill<S: BlockStore>(
+    alloc: Global,
+    dbd: &Dbd,
+    stream: &[u8],
+    store: S,
+    blocks: u32,
+    lines: &mut Lines,
+) -> (S, Ended)
+    requires size { S.size store ≡ dbd.now.block_size }
+    requires empty { IsTrue (S.is_sound store) → S.contents store ≡ [] }
+{
+    let most = blocks.clamp(1, 65_536);
+    let Lines { out, err } = lines;
+    reload_store(alloc, dbd, stream, store, most, out, err)
+}
+
+/// Loads a stream into an empty store, and tells of its accesses. Gives the store back.
+fn fill_counted<S: BlockStore, P: Progress>(
+    alloc: Global,
+    dbd: &Dbd,
+    stream: &[u8],
+    store: S,
+    blocks: u32,
+    progress: &P,
+    lines: &mut Lines,
+) -> (S, Ended)
+    requires size { S.size store ≡ dbd.now.block_size }
+    requires empty { IsTrue (S.is_sound store) → S.contents store ≡ [] }
+{
+    let store = Counted::new(store, "reloading", progress);
+    let (store, ended) = fill(alloc, dbd, stream, store, blocks, lines);
+    (store.into_inner(), ended)
+}
+
+/// Loads a stream into an empty store, with a cache of so many blocks before it. Gives the store back, and whether it has every block.
+fn fill_cached<S: RunStore + Drop, P: Progress>(
+    alloc: Global,
+    dbd: &Dbd,
+    stream: &[u8],
+    store: S,
+    blocks: u32,
+    cache: u32,
+    progress: &P,
+    lines: &mut Lines,
+) -> Result<(S, Result<(), Refused>, Ended), FileFault>
+    requires size { S.size store ≡ dbd.now.block_size }
+    requires empty { IsTrue (S.is_sound store) → S.contents store ≡ [] }
+{
+    let store = cached(alloc, store, cache)?;
+    let (store, ended) = fill_counted(alloc, dbd, stream, store, blocks, progress, lines);
+    let (store, written) = store.into_store();
+    Ok((store.into_store(), written, ended))
+}
+
 /// Loads a stream into an empty file, with a ledger for the accesses that fail. The file then has every block.
-fn fill<L: Ledger, P: Progress>(
+fn fill_blocks<L: Ledger, P: Progress>(
     alloc: Global,
     dbd: &Dbd,
     stream: &[u8],
@@ -32,28 +87,18 @@ fn fill<L: Ledger, P: Progress>(
     requires parts { blank.parts ≡ L.parts }
     requires share { 0 < blank.parts }
 {
-    let store = cached_blocks::<L>(alloc, dbd, file, cache, blank)?;
-    let store = Counted::new(store, "reloading", progress);
-    let most = blocks.clamp(1, 65_536);
-    let (store, ended) = reload_store(
-        alloc,
-        dbd,
-        stream,
-        store,
-        most,
-        &mut lines.out,
-        &mut lines.err,
-    );
-    let (store, written) = store.into_inner().into_store();
-    let said = store.into_store().last_error();
+    let store = file_blocks::<L>(dbd, file, blank)?;
+    let (store, written, ended) = fill_cached(
+        alloc, dbd, stream, store, blocks, cache, progress, lines,
+    )?;
     match ended.status {
-        0 if written.is_err() => Err(Stop::device(Named::Volume, said)),
-        DEVICE_FAILED => Err(Stop::device(Named::Volume, said)),
+        0 if written.is_err() => Err(Stop::device(Named::Volume, store.last_error())),
+        DEVICE_FAILED => Err(Stop::device(Named::Volume, store.last_error())),
         _ => Ok(ended),
     }
 }
 
-/// As `fill`, with a ledger of its own.
+/// As `fill_blocks`, with a ledger of its own.
 fn fill_file<P: Progress>(
     alloc: Global,
     dbd: &Dbd,
@@ -64,17 +109,31 @@ fn fill_file<P: Progress>(
     progress: &P,
     lines: &mut Lines,
 ) -> Result<Ended, Stop> {
-    fill::<Brand, P>(
-        alloc,
-        dbd,
-        stream,
-        file,
-        Blank::new(1),
-        blocks,
-        cache,
-        progress,
-        lines,
+    let blank = Blank::new(1);
+    fill_blocks::<Brand, P>(
+        alloc, dbd, stream, file, blank, blocks, cache, progress, lines,
     )
+}
+
+/// Loads a stream into a new file of a volume, which gets its name when the whole volume is written. Says how it ended, and what is said of that.
+fn fill_into<R: Files<File = File>, P: Progress>(
+    alloc: Global,
+    dbd: &Dbd,
+    stream: &[u8],
+    output: &mut Output<'_, R>,
+    blocks: u32,
+    cache: u32,
+    progress: &P,
+) -> Result<(Ended, Lines), Stop> {
+    let file = of_file(Named::Volume, output.share())?;
+    let mut lines = Lines::new(alloc)?;
+    let ended = fill_file(
+        alloc, dbd, stream, file, blocks, cache, progress, &mut lines,
+    )?;
+    if ended.status == 0 {
+        output.publish()?;
+    }
+    Ok((ended, lines))
 }
 
 /// Makes a volume file, of at most so many blocks, from 1 to 65,536, of the stream in a file. The DBD is read and judged first, then
@@ -105,16 +164,9 @@ where
         syncs,
     };
     let mut output = Output::open(rt, alloc, wanted, &[source, records])?;
-    let file = of_file(Named::Volume, output.share())?;
-    let mut lines = Lines::new(alloc)?;
     let cache = cache.unwrap_or(CACHE);
     let progress = console.progress;
-    let ended = fill_file(
-        alloc, &dbd, &stream, file, blocks, cache, progress, &mut lines,
-    )?;
-    if ended.status == 0 {
-        output.publish()?;
-    }
+    let (ended, lines) = fill_into(alloc, &dbd, &stream, &mut output, blocks, cache, progress)?;
     lines.tell(&mut *console.out, &mut *console.err)?;
     Ok(ended)
 }

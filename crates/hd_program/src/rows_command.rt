@@ -8,10 +8,10 @@ use crate::stop::Stop;
 use crate::volume_store::open_to_read;
 use hd_commands::{Ended, Refusal, refuse};
 use hd_dbd::Dbd;
-use hd_files::{Watched, cached_blocks};
+use hd_files::{Watched, cached, file_blocks};
 use hd_output::{Pieces, Progress};
 use hd_rows::{Form, RowWriter, code_named};
-use hd_stores::BlockStore;
+use hd_stores::{BlockStore, RunStore};
 use hd_unload::{UnloadFault, unload};
 use hd_volume::Volume;
 use std::alloc::Global;
@@ -47,8 +47,61 @@ fn unload_into<S: BlockStore, W: Write + Drop>(
     }
 }
 
+/// Checks a volume, and writes its rows as text.
+fn write_rows<S: BlockStore, O: Write>(
+    alloc: Global,
+    volume: &mut Volume<S>,
+    dbd: &Dbd,
+    form: Form,
+    out: &mut O,
+) -> Result<(), Refusal>
+    requires { (volume.old.size ≡ dbd.now.block_size) × (volume.old.sizes ≡ stored_sizes dbd.now.types) }
+{
+    let Ok(mut lines) = Pieces::new(alloc, out) else {
+        return Err(Refusal::Memory);
+    };
+    match RowWriter::new(alloc, dbd, form, &mut lines) {
+        Ok(rows) => unload_into(alloc, volume, dbd, rows),
+        Err(_) => Err(Refusal::Memory),
+    }
+}
+
+/// Checks the volume in a store, and writes its rows as text.
+fn list<S: BlockStore + Drop, O: Write, E: Write>(
+    alloc: Global,
+    dbd: &Dbd,
+    store: S,
+    form: Form,
+    out: &mut O,
+    err: &mut E,
+) -> Result<Ended, Stop>
+    requires { S.size store ≡ dbd.now.block_size }
+{
+    let mut volume = load_volume(alloc, dbd, store)?;
+    match write_rows(alloc, &mut volume, dbd, form, out) {
+        Ok(()) => Ok(Ended::with_status(0)),
+        Err(refusal) => Ok(refuse(refusal, err)),
+    }
+}
+
+/// Checks the volume in a store, with a cache of so many blocks before it, and writes its rows as text.
+fn list_cached<S: RunStore + Drop, O: Write, E: Write>(
+    alloc: Global,
+    dbd: &Dbd,
+    store: S,
+    form: Form,
+    cache: u32,
+    out: &mut O,
+    err: &mut E,
+) -> Result<Ended, Stop>
+    requires { S.size store ≡ dbd.now.block_size }
+{
+    let store = cached(alloc, store, cache)?;
+    list(alloc, dbd, store, form, out, err)
+}
+
 /// Checks the volume in a file, and writes its rows as text, with a ledger for the accesses that fail.
-fn list<L: Ledger, O: Write, E: Write>(
+fn list_blocks<L: Ledger, O: Write, E: Write>(
     alloc: Global,
     dbd: &Dbd,
     file: File,
@@ -62,19 +115,11 @@ fn list<L: Ledger, O: Write, E: Write>(
     requires parts { blank.parts ≡ L.parts }
     requires share { 0 < blank.parts }
 {
-    let store = cached_blocks::<L>(alloc, dbd, file, cache, blank)?;
-    let mut volume = load_volume(alloc, dbd, store)?;
-    let Ok(mut lines) = Pieces::new(alloc, out) else {
-        return Err(Stop::from(Refusal::Memory));
-    };
-    let rows = RowWriter::new(alloc, dbd, form, &mut lines)?;
-    match unload_into(alloc, &mut volume, dbd, rows) {
-        Ok(()) => Ok(Ended::with_status(0)),
-        Err(refusal) => Ok(refuse(refusal, err)),
-    }
+    let store = file_blocks::<L>(dbd, file, blank)?;
+    list_cached(alloc, dbd, store, form, cache, out, err)
 }
 
-/// As `list`, with a ledger of its own.
+/// As `list_blocks`, with a ledger of its own.
 fn list_file<O: Write, E: Write>(
     alloc: Global,
     dbd: &Dbd,
@@ -84,7 +129,7 @@ fn list_file<O: Write, E: Write>(
     out: &mut O,
     err: &mut E,
 ) -> Result<Ended, Stop> {
-    list::<Brand, O, E>(alloc, dbd, file, form, cache, Blank::new(1), out, err)
+    list_blocks::<Brand, O, E>(alloc, dbd, file, form, cache, Blank::new(1), out, err)
 }
 
 /// Checks the volume in a file, which is opened for reading alone, and writes its rows in hierarchic sequence, a line each; or those of one

@@ -6,8 +6,9 @@ use crate::dbd_source::{CACHE, read_database};
 use crate::stop::Stop;
 use hd_commands::Refusal;
 use hd_dbd::{Dbd, Name8};
-use hd_files::{Named, cached_blocks, open, open_shared};
+use hd_files::{Named, cached, file_blocks, open, open_shared};
 use hd_show::see_segment;
+use hd_stores::{BlockStore, RunStore};
 use hd_unload::RecordFault;
 use hd_words::Request;
 use std::alloc::Global;
@@ -66,19 +67,15 @@ fn is_of_file(refusal: Refusal) -> bool {
     }
 }
 
-/// Sees the segment at an address of the volume in a file, with a ledger for the accesses that fail.
-fn see<L: Ledger>(
+/// Sees the segment at an address of the volume in a store.
+fn see<S: BlockStore + Drop>(
     alloc: Global,
     dbd: &Dbd,
-    file: File,
+    store: S,
     address: u32,
-    blank: Blank,
 ) -> Result<Option<Sighted>, Stop>
-    requires name { blank.name ≡ L.name }
-    requires parts { blank.parts ≡ L.parts }
-    requires share { 0 < blank.parts }
+    requires { S.size store ≡ dbd.now.block_size }
 {
-    let store = cached_blocks::<L>(alloc, dbd, file, CACHE, blank)?;
     let mut volume = load_volume(alloc, dbd, store)?;
     let Some(seen) = see_segment(alloc, &mut volume, dbd, address)? else {
         return Ok(None);
@@ -93,9 +90,38 @@ fn see<L: Ledger>(
     }))
 }
 
-/// As `see`, with a ledger of its own.
+/// Sees the segment at an address of the volume in a store, with a cache before it.
+fn see_cached<S: RunStore + Drop>(
+    alloc: Global,
+    dbd: &Dbd,
+    store: S,
+    address: u32,
+) -> Result<Option<Sighted>, Stop>
+    requires { S.size store ≡ dbd.now.block_size }
+{
+    let store = cached(alloc, store, CACHE)?;
+    see(alloc, dbd, store, address)
+}
+
+/// Sees the segment at an address of the volume in a file, with a ledger for the accesses that fail.
+fn see_blocks<L: Ledger>(
+    alloc: Global,
+    dbd: &Dbd,
+    file: File,
+    address: u32,
+    blank: Blank,
+) -> Result<Option<Sighted>, Stop>
+    requires name { blank.name ≡ L.name }
+    requires parts { blank.parts ≡ L.parts }
+    requires share { 0 < blank.parts }
+{
+    let store = file_blocks::<L>(dbd, file, blank)?;
+    see_cached(alloc, dbd, store, address)
+}
+
+/// As `see_blocks`, with a ledger of its own.
 fn see_file(alloc: Global, dbd: &Dbd, file: File, address: u32) -> Result<Option<Sighted>, Stop> {
-    see::<Brand>(alloc, dbd, file, address, Blank::new(1))
+    see_blocks::<Brand>(alloc, dbd, file, address, Blank::new(1))
 }
 
 /// How many bytes of a file are looked at to tell what it is.

@@ -7,63 +7,72 @@ use hd_macro::LineFault;
 use hd_rows::RowFault;
 use hd_serve::FrameFault;
 use std::alloc::{AllocError, AllocFailed};
+use std::fmt;
 use std::io::{self, ErrorKind};
-use thiserror::Error;
 
 /// The status where the command line is not understood, or would write over an input.
 pub const COMMAND_LINE: u8 = 64;
 
 /// Why the program ended without having done its work. Its text is the line on standard error.
-#[derive(Debug, Drop, Error)]
+#[derive(Drop)]
 pub enum Stop {
     /// The DBD's source has a fault; with the source.
-    #[error("DBD refused: {0}")]
     Database(GenFault, Vec<u8>),
     /// The PSB's source has a fault; with the source.
-    #[error("PSB refused: {0}")]
     Program(GenFault, Vec<u8>),
     /// A line of a source has a fault; with the source.
-    #[error("source refused: {0}")]
     Source(LineFault, Vec<u8>),
     /// The deck has a fault; with the deck, and the file that it stands in.
-    #[error("DECK refused: {0}")]
     Deck(DeckFault, Vec<u8>, Named),
     /// A text of rows has a fault on a line; with the text.
-    #[error("IN refused: line {1}, {0}")]
     Rows(RowFault, u64, Vec<u8>),
     /// A table has a fault on a line; with the name of its type.
-    #[error("IN refused: {1}.csv, line {2}, {0}")]
     Table(RowFault, String, u64),
     /// The system refused to open, to read or to write a file.
-    #[error("device failed")]
     File(Named, io::Error),
     /// The system refused to make a new file beside one, in which the result for it was to be written.
-    #[error("device failed")]
     Beside(Named, io::Error),
-    #[error("output file is also an input, nothing was changed")]
     OverInput,
-    #[error("volume is in use")]
     InUse(Named),
     /// The log beside a volume has commits of another file.
-    #[error("log of another volume")]
     OtherVolume,
-    #[error("log of another version")]
     OtherVersion,
     /// The system refuses to write a volume, some commits of which stand in its log alone.
-    #[error("the last commit stands in the log alone")]
     Waiting(io::Error),
-    #[error("a word of the command line is not UTF-8")]
     Words,
-    #[error("the database has no type of this name")]
     NoType,
     /// A frame of the program whose calls are served is no right one.
-    #[error("frame refused: {0}")]
     Frame(FrameFault),
     /// A type's fields can't be told to a program whose calls are to be served.
-    #[error("DBD refused: a type has more than 255 fields")]
     Fields,
-    #[error("{0}")]
     Refused(Refusal),
+}
+
+impl fmt::Display for Stop {
+    fn fmt<W: fmt::Write>(&self, f: &mut fmt::Formatter<W>) -> fmt::Result {
+        let text = match self {
+            Stop::Database(fault, _) => return write!(f, "DBD refused: {fault}"),
+            Stop::Program(fault, _) => return write!(f, "PSB refused: {fault}"),
+            Stop::Source(fault, _) => return write!(f, "source refused: {fault}"),
+            Stop::Deck(fault, _, _) => return write!(f, "DECK refused: {fault}"),
+            Stop::Rows(fault, line, _) => return write!(f, "IN refused: line {line}, {fault}"),
+            Stop::Table(fault, name, line) => {
+                return write!(f, "IN refused: {name}.csv, line {line}, {fault}");
+            }
+            Stop::Frame(fault) => return write!(f, "frame refused: {fault}"),
+            Stop::Refused(refusal) => return write!(f, "{refusal}"),
+            Stop::File(_, _) | Stop::Beside(_, _) => "device failed",
+            Stop::OverInput => "output file is also an input, nothing was changed",
+            Stop::InUse(_) => "volume is in use",
+            Stop::OtherVolume => "log of another volume",
+            Stop::OtherVersion => "log of another version",
+            Stop::Waiting(_) => "the last commit stands in the log alone",
+            Stop::Words => "a word of the command line is not UTF-8",
+            Stop::NoType => "the database has no type of this name",
+            Stop::Fields => "DBD refused: a type has more than 255 fields",
+        };
+        f.write_str(text)
+    }
 }
 
 impl Stop {

@@ -10,14 +10,6 @@ use std::fs::File;
 use std::io::{self, ErrorKind, Write};
 use std::rt::Files;
 
-/// A stream's file that is to be written, with what gathers its records.
-fn records_into<W: Write>(alloc: Global, file: &mut W) -> Result<Pieces<&mut W>, Stop> {
-    match Pieces::new(alloc, file) {
-        Ok(records) => Ok(records),
-        Err(_) => Err(Stop::from(Refusal::Memory)),
-    }
-}
-
 /// A stream that was made, once all of its records are handed on. What a refusal leaves gathered is not.
 fn handed_on<W: Write>(
     made: Result<u32, TextFault>,
@@ -51,6 +43,20 @@ fn wanted(stream: &str, syncs: bool) -> Wanted<'_> {
     }
 }
 
+/// Makes a stream of a text of rows.
+fn write_rows<W: Write>(
+    alloc: Global,
+    dbd: &Dbd,
+    text: &[u8],
+    stream: &mut W,
+) -> Result<u32, TextFault> {
+    let Ok(mut records) = Pieces::new(alloc, stream) else {
+        return Err(TextFault::Memory);
+    };
+    let made = stream_of_rows(alloc, dbd, text, &mut records);
+    handed_on(made, &mut records)
+}
+
 /// Makes an unload stream, in a file, of a text of rows in another. The DBD is read and judged first, then the text is read, then the
 /// stream's file is opened; only when the whole stream is written does it take the place of that file. Says how many segments the stream has.
 pub fn make_of_rows<R, O>(
@@ -70,10 +76,7 @@ where
     let (text, given) = read_file(rt, alloc, rows, Named::Rows)?;
     let mut output = Output::open(rt, alloc, wanted(stream, syncs), &[source, given])?;
     let mut file = Watched::over(&mut output);
-    let mut records = records_into(alloc, &mut file)?;
-    let made = stream_of_rows(alloc, &dbd, &text, &mut records);
-    let made = handed_on(made, &mut records);
-    drop(records);
+    let made = write_rows(alloc, &dbd, &text, &mut file);
     let said = file.last_error();
     drop(file);
     match made {
@@ -181,6 +184,20 @@ fn pairs_of<'a>(alloc: Global, tables: &'a Tables) -> Result<Vec<(u8, &'a [u8])>
     Ok(pairs)
 }
 
+/// Makes a stream of tables, each with the code of its type.
+fn write_tables<W: Write>(
+    alloc: Global,
+    dbd: &Dbd,
+    tables: &[(u8, &[u8])],
+    stream: &mut W,
+) -> Result<u32, TextFault> {
+    let Ok(mut records) = Pieces::new(alloc, stream) else {
+        return Err(TextFault::Memory);
+    };
+    let made = stream_of_tables(alloc, dbd, tables, &mut records);
+    handed_on(made, &mut records)
+}
+
 /// Makes an unload stream, in a file, of the tables in a folder, each in a file that has the name of its type and the ending `.csv`. All
 /// else is as with a text of rows.
 pub fn make_of_tables<R, O>(
@@ -201,10 +218,7 @@ where
     let mut output = Output::open(rt, alloc, wanted(stream, syncs), &tables.files)?;
     let pairs = pairs_of(alloc, &tables)?;
     let mut file = Watched::over(&mut output);
-    let mut records = records_into(alloc, &mut file)?;
-    let made = stream_of_tables(alloc, &dbd, &pairs, &mut records);
-    let made = handed_on(made, &mut records);
-    drop(records);
+    let made = write_tables(alloc, &dbd, &pairs, &mut file);
     let said = file.last_error();
     drop(file);
     match made {

@@ -8,33 +8,27 @@ use crate::stop::Stop;
 use crate::volume_store::open_to_read;
 use hd_commands::{Ended, Refusal, unload_volume};
 use hd_dbd::Dbd;
-use hd_files::{Named, Output, Wanted, Watched, cached_blocks};
+use hd_files::{Named, Output, Wanted, Watched, cached, file_blocks};
 use hd_output::{Pieces, Progress};
-use hd_stores::Counted;
+use hd_stores::{BlockStore, Counted, RunStore};
 use std::alloc::Global;
 use std::fs::File;
-use std::io::Write;
+use std::io::{self, Write};
 use std::marker::Brand;
 use std::rt::Files;
 use std::sync::ledger::{Blank, Ledger};
 
-/// Unloads the volume in a file into a stream, with a ledger for the accesses that fail.
-fn copy<L: Ledger, W: Write, P: Progress>(
+/// Unloads the volume in a store into a stream.
+fn copy<S: BlockStore + Drop, W: Write>(
     alloc: Global,
     dbd: &Dbd,
-    file: File,
+    store: S,
     stream: &mut W,
-    cache: u32,
-    blank: Blank,
-    progress: &P,
     lines: &mut Lines,
 ) -> Result<Ended, Stop>
-    requires name { blank.name ≡ L.name }
-    requires parts { blank.parts ≡ L.parts }
-    requires share { 0 < blank.parts }
+    requires { S.size store ≡ dbd.now.block_size }
 {
-    let store = cached_blocks::<L>(alloc, dbd, file, cache, blank)?;
-    let mut volume = load_volume(alloc, dbd, Counted::new(store, "unloading", progress))?;
+    let mut volume = load_volume(alloc, dbd, store)?;
     let Ok(mut records) = Pieces::new(alloc, stream) else {
         return Err(Stop::from(Refusal::Memory));
     };
@@ -49,7 +43,57 @@ fn copy<L: Ledger, W: Write, P: Progress>(
     ))
 }
 
-/// As `copy`, with a ledger of its own.
+/// Unloads the volume in a store into a stream, and tells of its accesses.
+fn copy_counted<S: BlockStore + Drop, W: Write, P: Progress>(
+    alloc: Global,
+    dbd: &Dbd,
+    store: S,
+    stream: &mut W,
+    progress: &P,
+    lines: &mut Lines,
+) -> Result<Ended, Stop>
+    requires { S.size store ≡ dbd.now.block_size }
+{
+    let store = Counted::new(store, "unloading", progress);
+    copy(alloc, dbd, store, stream, lines)
+}
+
+/// Unloads the volume in a store into a stream, with a cache of so many blocks before the store.
+fn copy_cached<S: RunStore + Drop, W: Write, P: Progress>(
+    alloc: Global,
+    dbd: &Dbd,
+    store: S,
+    stream: &mut W,
+    cache: u32,
+    progress: &P,
+    lines: &mut Lines,
+) -> Result<Ended, Stop>
+    requires { S.size store ≡ dbd.now.block_size }
+{
+    let store = cached(alloc, store, cache)?;
+    copy_counted(alloc, dbd, store, stream, progress, lines)
+}
+
+/// Unloads the volume in a file into a stream, with a ledger for the accesses that fail.
+fn copy_blocks<L: Ledger, W: Write, P: Progress>(
+    alloc: Global,
+    dbd: &Dbd,
+    file: File,
+    stream: &mut W,
+    cache: u32,
+    blank: Blank,
+    progress: &P,
+    lines: &mut Lines,
+) -> Result<Ended, Stop>
+    requires name { blank.name ≡ L.name }
+    requires parts { blank.parts ≡ L.parts }
+    requires share { 0 < blank.parts }
+{
+    let store = file_blocks::<L>(dbd, file, blank)?;
+    copy_cached(alloc, dbd, store, stream, cache, progress, lines)
+}
+
+/// As `copy_blocks`, with a ledger of its own.
 fn copy_file<W: Write, P: Progress>(
     alloc: Global,
     dbd: &Dbd,
@@ -59,16 +103,42 @@ fn copy_file<W: Write, P: Progress>(
     progress: &P,
     lines: &mut Lines,
 ) -> Result<Ended, Stop> {
-    copy::<Brand, W, P>(
-        alloc,
-        dbd,
-        file,
-        stream,
-        cache,
-        Blank::new(1),
-        progress,
-        lines,
-    )
+    let blank = Blank::new(1);
+    copy_blocks::<Brand, W, P>(alloc, dbd, file, stream, cache, blank, progress, lines)
+}
+
+/// Unloads the volume in a file into a stream, and gives what the system said of the last write to this that it refused.
+fn copy_watched<W: Write, P: Progress>(
+    alloc: Global,
+    dbd: &Dbd,
+    file: File,
+    stream: &mut W,
+    cache: u32,
+    progress: &P,
+    lines: &mut Lines,
+) -> Result<(Ended, Option<io::Error>), Stop> {
+    let mut stream = Watched::over(stream);
+    let ended = copy_file(alloc, dbd, file, &mut stream, cache, progress, lines)?;
+    Ok((ended, stream.last_error()))
+}
+
+/// Unloads the volume in a file into the file of a stream, which gets its name when the whole stream is written. Says how it ended, and what is said of that.
+fn copy_into<R: Files<File = File>, P: Progress>(
+    alloc: Global,
+    dbd: &Dbd,
+    file: File,
+    output: &mut Output<'_, R>,
+    cache: u32,
+    progress: &P,
+) -> Result<(Ended, Lines), Stop> {
+    let mut lines = Lines::new(alloc)?;
+    let (ended, said) = copy_watched(alloc, dbd, file, output, cache, progress, &mut lines)?;
+    match ended.status {
+        0 => output.publish()?,
+        DEVICE_FAILED if said.is_some() => return Err(Stop::device(Named::Out, said)),
+        _ => {}
+    }
+    Ok((ended, lines))
 }
 
 /// Checks the volume in a file, which is opened for reading alone, and writes its unload stream. The DBD is read and judged first, then the volume and
@@ -98,18 +168,8 @@ where
         syncs,
     };
     let mut output = Output::open(rt, alloc, wanted, &[source, image])?;
-    let mut lines = Lines::new(alloc)?;
-    let mut stream = Watched::over(&mut output);
     let cache = cache.unwrap_or(CACHE);
-    let progress = console.progress;
-    let ended = copy_file(alloc, &dbd, file, &mut stream, cache, progress, &mut lines)?;
-    let said = stream.last_error();
-    drop(stream);
-    match ended.status {
-        0 => output.publish()?,
-        DEVICE_FAILED if said.is_some() => return Err(Stop::device(Named::Out, said)),
-        _ => {}
-    }
+    let (ended, lines) = copy_into(alloc, &dbd, file, &mut output, cache, console.progress)?;
     lines.tell(&mut *console.out, &mut *console.err)?;
     Ok(ended)
 }

@@ -10,8 +10,9 @@ use Rattle.hd_serve.specs.declared.answered_calls.Count.{Count}
 use Rattle.hd_serve.specs.declared.desk.Ending.{Ending}
 use Rattle.hd_serve.specs.declared.desk.Stop.{Stop}
 use Rattle.hd_serve.specs.declared.desk.Stop.TheVariants as stop
-use Rattle.hd_serve.specs.Requests.{Request}
-use Rattle.hd_serve.specs.Serves.{AreServed, AreBroken, ServesAll, DoesAll, BreaksBehind, Stored, ServesOut, DoesOut, BreaksOut, StopsAt, AreAsked, Ends, GoesWrong, GoesOn, IsServedToTheEnd, ServesUntil, IsServedOut, IsBrokenOut, LeavesAt}
+use Rattle.hd_session.specs.Requests.{Request, AreBroken, DoesAll, BreaksBehind}
+use Rattle.hd_deck.specs.Commits.{Stored, DoesOut, BreaksOut}
+use Rattle.hd_serve.specs.Serves.{AreServed, ServesAll, ServesOut, StopsAt, AreAsked, Ends, GoesWrong, GoesOn, IsServedToTheEnd, ServesUntil, IsServedOut, IsBrokenOut, LeavesAt}
 
 -- what was asked for in front of an input is so whatever is behind it
 whatever_behind : (limits : Limits) (input : Option (List ℕ)) (requests : List Request) (Behind : List ℕ → Type 0) → AreAsked limits input requests Behind → AreAsked limits input requests GoesOn

@@ -8,7 +8,8 @@ use Rattle.hd_serve.specs.declared.answered_calls.Count.{Count}
 use Rattle.hd_serve.specs.declared.answered_calls.Halt.{Halt}
 use Rattle.hd_serve.specs.declared.answered_calls.Halt.TheVariants as halt
 use Rattle.hd_serve.specs.Frames.{frame_bytes, request_bytes, RequestFits}
-use Rattle.hd_serve.specs.Requests.{Request, framed}
+use Rattle.hd_session.specs.Requests.{Request}
+use Rattle.hd_serve.specs.Requests.{framed}
 use Rattle.hd_serve.specs.Serves.{HaltsAt, StopsNext, next_of}
 
 module _ (limits : Limits) (s t : SessionState) (before after old new : Option (List ℕ)) (r : Request) (right : RequestFits limits (framed r)) (taken : Consumes before after (frame_bytes (request_bytes (framed r)))) where

@@ -1,34 +1,33 @@
 -- One request of a session, as it is carried out, answered in a frame and counted.
-use Rattle.std.proofs.Common.{◌≡◌, ℕ, List, [], ◌∷◌, ◌++◌, false, IsTrue, Option, Some, None, Result, Ok, Err, ap, sym, ◌∙◌, subst, refl}
+use Rattle.std.proofs.Common.{◌≡◌, ℕ, List, [], ◌∷◌, false, IsTrue, Option, Some, None, Result, Ok, Err, ap, sym, ◌∙◌, subst, refl}
 use Rattle.std.specs.Prelude.{unwrap_or}
 use Rattle.std.specs.Io.KnownBytes.{Appends}
 use Rattle.std.proofs.KnownBytes.{Appends-nil}
 use Rattle.std.proofs.lemmas.List.{append-nil}
 use Rattle.hd_dbd.specs.declared.answer.Refused.{Refused}
 use Rattle.hd_dbd.specs.declared.answer.Refused.TheVariants as refused
-use Rattle.hd_dbd.specs.Logs.{Outcome, replied, area, full, memory, Entry}
-use Rattle.hd_calls.specs.Steps.{State}
-use Rattle.hd_stores.specs.Stores.{Commit, Committed, commits_of}
-use Rattle.hd_update.specs.States.{Represents}
+use Rattle.hd_dbd.specs.Logs.{Outcome, replied, area, full, memory}
 use Rattle.hd_session.specs.declared.call_and_answer.Answer.{Answer}
 use Rattle.hd_session.specs.Buffer.{Buffer}
 use Rattle.hd_session.specs.Replies.{reply_of}
 use Rattle.hd_session.specs.Opening.{SessionState}
 use Rattle.hd_session.specs.Logged.{outcome_of}
-use Rattle.hd_session.specs.Turns.{Turn, IsTurnAnswered, IsFlushed, entry_of}
-use Rattle.hd_session.proofs.Turns.{made_none, made_one, made_flushed}
+use Rattle.hd_session.specs.Turns.{Turn, IsTurnAnswered, entry_of}
+use Rattle.hd_session.proofs.Turns.{made_one}
 use Rattle.hd_deck.specs.Runs.{memory_of, memory_in}
 use Rattle.hd_serve.specs.Frames.{frame_bytes}
 use Rattle.hd_serve.specs.Answers.{done_bytes}
-use Rattle.hd_serve.specs.Requests.{Request, ask, commit, outcome_bytes, Lasts}
-use Rattle.hd_serve.specs.Serves.{answered_bytes, AreDone, AreServed, ServesAll, DoesAll}
+use Rattle.hd_session.specs.Requests.{Request, ask, commit, DoesAll}
+use Rattle.hd_serve.specs.Requests.{outcome_bytes}
+use Rattle.hd_serve.specs.Serves.{answered_bytes, AreServed, ServesAll}
+use Rattle.hd_session.proofs.Requests.{IsCommitted, done_none, done_commit}
 
 -- nothing was asked for
 pub served_none : (s : SessionState) (a : Option (List ℕ)) → s.broken ≡ false → ServesAll s [] [] a a 0 s
-served_none s a whole = λ st sound stands. record { entries = []; done = record { made = made_none s st whole stands; lasts = refl }; written = Appends-nil a; memory = refl }
+served_none s a whole = λ st sound stands. record { entries = []; done = done_none s st whole stands; written = Appends-nil a; memory = refl }
 
 pub done_nothing : (s : SessionState) → s.broken ≡ false → DoesAll s [] s
-done_nothing s whole = λ st sound stands. ([], record { made = made_none s st whole stands; lasts = refl })
+done_nothing s whole = λ st sound stands. ([], done_none s st whole stands)
 
 -- requests that were served were carried out
 pub done_of_served : (s t : SessionState) (requests : List Request) (head : List ℕ) (old new : Option (List ℕ)) (lacking : ℕ) → ServesAll s requests head old new lacking t → DoesAll s requests t
@@ -65,32 +64,14 @@ made_before_write s t turn b lacking result answered few =
 
 -- ---- a commit
 
--- A commit of a session was done: it flushed the session, and a crash leaves its image.
-pub record IsCommitted (s t : SessionState) : Type 0 where
-  pub flushed : IsFlushed s t
-  pub lasts : (t.volume.committed.image ≡ t.volume.image) × (t.volume.committed.tried ≡ t.volume.image) × (t.volume.committed.before ≡ commits_of s.volume.committed)
-
--- so that image lasts
-one_lasts : (old new : Committed) (image : List ℕ) → (new.image ≡ image) × (new.tried ≡ image) × (new.before ≡ commits_of old) → Lasts (image ∷ []) old new
-one_lasts old new image done = (
-  new.since,
-  ap (λ (x : List ℕ). record { image = x; tried = new.tried; since = new.since; before = new.before }) done.0
-      ∙ ap (λ (x : List ℕ). record { image = image; tried = x; since = new.since; before = new.before }) done.1
-      ∙ ap (λ (xs : List Commit). record { image = image; tried = image; since = new.since; before = xs }) done.2,
-)
-
 module _ (s t : SessionState) (whole : s.broken ≡ false) (done : IsTrue s.volume.is_sound → IsCommitted s t) where
-  -- it makes no call
-  no_call : (st : State) → IsTrue s.volume.is_sound → Represents s.database s.volume s.kept st → AreDone s st (commit ∷ []) [] t
-  no_call st sound stands = record { made = made_flushed s s t st [] [] (made_none s st whole stands) (done sound).flushed; lasts = one_lasts s.volume.committed t.volume.committed t.volume.image (done sound).lasts }
-
   pub does_commit : DoesAll s (commit ∷ []) t
-  does_commit = λ st sound stands. ([], no_call st sound stands)
+  does_commit = λ st sound stands. ([], done_commit s t whole done st sound stands)
 
   pub serves_commit : (old new : Option (List ℕ)) → Appends old new (frame_bytes done_bytes) → ServesAll s (commit ∷ []) [] old new 0 t
   serves_commit old new written = λ st sound stands. record {
     entries = [];
-    done = no_call st sound stands;
+    done = done_commit s t whole done st sound stands;
     written = subst (λ (ts : List ℕ). Appends old new ts) (sym (append-nil (frame_bytes done_bytes))) written;
     memory = refl;
   }

@@ -15,10 +15,12 @@ use Rattle.hd_serve.specs.declared.answered_calls.Count.{Count}
 use Rattle.hd_serve.specs.declared.desk.Ending.{Ending}
 use Rattle.hd_serve.specs.declared.desk.Stop.{Stop}
 use Rattle.hd_serve.specs.declared.desk.Stop.TheVariants as stop
-use Rattle.hd_serve.specs.Requests.{Request, ask, commit, framed, calls_in, frames_of}
-use Rattle.hd_serve.specs.Serves.{AreAsked, EndsBy, Ends, GoesWrong, GoesOn, ServesAll, DoesAll, BreaksBehind, IsServedNext, IsDoneNext, StopsNext, IsServedToTheEnd, IsDoneInPart, IsBrokenInPart, IsServedInPart, ServesUntil}
+use Rattle.hd_session.specs.Requests.{Request, ask, commit, calls_in, DoesAll, BreaksBehind}
+use Rattle.hd_serve.specs.Requests.{framed, frames_of}
+use Rattle.hd_serve.specs.Serves.{AreAsked, EndsBy, Ends, GoesWrong, GoesOn, ServesAll, IsServedNext, IsDoneNext, StopsNext, IsServedToTheEnd, IsDoneInPart, IsBrokenInPart, IsServedInPart, ServesUntil}
 use Rattle.hd_serve.proofs.OneRequest.{served_none, done_nothing}
-use Rattle.hd_serve.proofs.MoreRequests.{frames_append, calls_append, served_both, served_then_done, served_then_broken, served_behind}
+use Rattle.hd_session.proofs.Requests.{calls_append}
+use Rattle.hd_serve.proofs.MoreRequests.{frames_append, served_both, served_then_done, served_then_broken, served_behind}
 
 -- ---- what the input was
 

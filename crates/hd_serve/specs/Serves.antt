@@ -17,13 +17,15 @@ use Rattle.hd_session.specs.Buffer.{Buffer}
 use Rattle.hd_session.specs.Replies.{reply_of}
 use Rattle.hd_session.specs.Opening.{SessionState, IsOpenFaultOf}
 use Rattle.hd_session.specs.Turns.{StaysWhole, AreMade}
-use Rattle.hd_deck.specs.Runs.{memory_in, Breaks, IsPlayed}
+use Rattle.hd_session.specs.Requests.{Request, calls_in, AreDone, DoesAll, BreaksBehind, FailsIn}
+use Rattle.hd_deck.specs.Runs.{memory_in, Breaks}
+use Rattle.hd_deck.specs.Commits.{Stored, Leaves, DoesOut, BreaksOut, IsDone, IsDoneUntilFailure}
 use Rattle.hd_serve.specs.declared.call.Limits.{Limits}
 use Rattle.hd_serve.specs.declared.fault.FrameFault.{FrameFault}
 use Rattle.hd_serve.specs.declared.request.FramedRequest.TheVariants as asks
 use Rattle.hd_serve.specs.Frames.{frame_bytes, request_bytes, RequestFits, IsWrong}
 use Rattle.hd_serve.specs.Answers.{answer_bytes, refusal_bytes}
-use Rattle.hd_serve.specs.Requests.{Request, framed, calls_in, frames_of, answers_to, committed_by, Lasts}
+use Rattle.hd_serve.specs.Requests.{framed, frames_of, answers_to}
 use Rattle.hd_serve.specs.Hello.{hello_fits}
 use Rattle.hd_serve.specs.Services.{ServiceState}
 use Rattle.hd_serve.specs.declared.answered_calls.Halt.{Halt}
@@ -74,11 +76,6 @@ GoesOn rest = Unit {0}
 
 -- ---- in a session
 
--- Requests were carried out: their calls came to these entries, and each commit among them made last the image that it found.
-pub record AreDone (s : SessionState) (st : State) (requests : List Request) (entries : List (Entry (List ℕ))) (t : SessionState) : Type 0 where
-  pub made : AreMade s st (calls_in requests) entries t
-  pub lasts : Lasts (committed_by requests entries t.volume.image) s.volume.committed t.volume.committed
-
 -- Requests were carried out, and behind some bytes their answers were written; and so many of the calls found no memory.
 pub record AreServed (s : SessionState) (st : State) (requests : List Request) (head : List ℕ) (old new : Option (List ℕ)) (lacking : ℕ) (t : SessionState) : Type 0 where
   pub entries : List (Entry (List ℕ))
@@ -86,28 +83,9 @@ pub record AreServed (s : SessionState) (st : State) (requests : List Request) (
   pub written : Appends old new (head ++ answers_to requests entries)
   pub memory : lacking ≡ memory_in entries
 
--- Requests were carried out, and then an access failed: maybe in a commit, and then a crash may leave the image behind them too.
-pub record AreBroken (s : SessionState) (st : State) (requests : List Request) (t : SessionState) : Type 0 where
-  pub last : SessionState
-  pub entries : List (Entry (List ℕ))
-  pub done : AreDone s st requests entries last
-  pub fails : FailsCommit last.volume.is_sound last.volume.image last.volume.committed t.volume.committed
-
 -- whatever state the session stood for, the requests were served from it
 abbrev pub ServesAll : SessionState → List Request → List ℕ → Option (List ℕ) → Option (List ℕ) → ℕ → SessionState → Type 0
 ServesAll s requests head old new lacking t = (st : State) → IsTrue s.volume.is_sound → Represents s.database s.volume s.kept st → AreServed s st requests head old new lacking t
-
--- whatever state the session stood for, the requests were carried out from it, their answers written or not
-abbrev pub DoesAll : SessionState → List Request → SessionState → Type 0
-DoesAll s requests t = (st : State) → IsTrue s.volume.is_sound → Represents s.database s.volume s.kept st → (entries : List (Entry (List ℕ))) × AreDone s st requests entries t
-
--- whatever state the session stood for, the requests were carried out from it, and then an access failed
-abbrev pub BreaksBehind : SessionState → List Request → SessionState → Type 0
-BreaksBehind s requests t = (st : State) → IsTrue s.volume.is_sound → Represents s.database s.volume s.kept st → AreBroken s st requests t
-
--- what a failed access leaves for a crash: what there was, or, where it was one of a commit, the image of the session too
-abbrev pub FailsIn : SessionState → SessionState → Type 0
-FailsIn s t = FailsCommit s.volume.is_sound s.volume.image s.volume.committed t.volume.committed
 
 -- what a halt at a request says of it: it was carried out, where its answer was not written; where an access failed, what a crash leaves
 abbrev pub HaltsAt : SessionState → Request → Halt → SessionState → Type 0
@@ -186,46 +164,15 @@ ServesUntil limits s input head old new (stop.Frame e) t = IsServedInPart limits
 
 -- ---- a session that is closed
 
--- What stands in a store: its bytes, and what a crash leaves of it.
-pub record Stored : Type 0 where
-  pub bytes : List ℕ
-  pub committed : Committed
-
--- what a session leaves in its store when it is closed
-abbrev pub Leaves : SessionState → Stored → Type 0
-Leaves t left = (t.volume.image ≡ left.bytes) × (t.volume.committed ≡ left.committed)
-
 -- The requests were served, and the last of them left this.
 pub record AreServedOut (s : SessionState) (st : State) (requests : List Request) (head : List ℕ) (old new : Option (List ℕ)) (lacking : ℕ) (left : Stored) : Type 0 where
   pub last : SessionState
   pub served : AreServed s st requests head old new lacking last
   pub leaves : Leaves last left
 
--- The requests were carried out, and the last of them left this.
-pub record AreDoneOut (s : SessionState) (st : State) (requests : List Request) (left : Stored) : Type 0 where
-  pub last : SessionState
-  pub entries : List (Entry (List ℕ))
-  pub done : AreDone s st requests entries last
-  pub leaves : Leaves last left
-
--- The requests were carried out, and then an access failed: of what is left something is said only for a crash.
-pub record AreBrokenOut (s : SessionState) (st : State) (requests : List Request) (left : Stored) : Type 0 where
-  pub last : SessionState
-  pub entries : List (Entry (List ℕ))
-  pub done : AreDone s st requests entries last
-  pub fails : FailsCommit last.volume.is_sound last.volume.image last.volume.committed left.committed
-
 -- whatever state the session stood for, the requests were served from it, and this is left
 abbrev pub ServesOut : SessionState → List Request → List ℕ → Option (List ℕ) → Option (List ℕ) → ℕ → Stored → Type 0
 ServesOut s requests head old new lacking left = (st : State) → IsTrue s.volume.is_sound → Represents s.database s.volume s.kept st → AreServedOut s st requests head old new lacking left
-
--- whatever state the session stood for, the requests were carried out from it, and this is left
-abbrev pub DoesOut : SessionState → List Request → Stored → Type 0
-DoesOut s requests left = (st : State) → IsTrue s.volume.is_sound → Represents s.database s.volume s.kept st → AreDoneOut s st requests left
-
--- whatever state the session stood for, the requests were carried out from it, an access failed, and this is left
-abbrev pub BreaksOut : SessionState → List Request → Stored → Type 0
-BreaksOut s requests left = (st : State) → IsTrue s.volume.is_sound → Represents s.database s.volume s.kept st → AreBrokenOut s st requests left
 
 -- The input was the frames of requests up to the end of the session, all of them were served, and this is left.
 pub record IsServedOut (limits : Limits) (s : SessionState) (e : Ending) (input after : Option (List ℕ)) (head : List ℕ) (old new : Option (List ℕ)) (calls lacking : ℕ) (left : Stored) : Type 0 where
@@ -261,26 +208,11 @@ LeavesAt limits s input head old new (stop.Frame e) left = IsServedOutUntil limi
 
 -- ---- over a store
 
--- A store's bytes held one forest; the calls among the requests came to a legal log from it, and the bytes that are left are those behind its last
--- entry (IsPlayed); and each commit among the requests made last the image that it found, in their order: where none was asked for, a crash leaves what
--- it would have left before.
-pub record IsDone (d : Database) (pcbs : List View) (store : Stored) (requests : List Request) (left : Stored) : Type 0 where
-  pub log : Log (List ℕ)
-  pub played : IsPlayed d pcbs store.bytes (calls_in requests) log left.bytes
-  pub lasts : Lasts (committed_by requests log.entries log.last) store.committed left.committed
-
 -- The requests were carried out, and behind the first frame the answers were written that their log gives; so many of the calls found no memory.
 pub record IsAnswered (d : Database) (pcbs : List View) (store : Stored) (requests : List Request) (first : List ℕ) (old new : Option (List ℕ)) (lacking : ℕ) (left : Stored) : Type 0 where
   pub done : IsDone d pcbs store requests left
   pub written : Appends old new (first ++ answers_to requests done.log.entries)
   pub memory : lacking ≡ memory_in done.log.entries
-
--- The requests were carried out, and then an access failed: a crash leaves what it would have left before that, or, where it was one of a commit, the
--- image behind the requests.
-pub record IsDoneUntilFailure (d : Database) (pcbs : List View) (store : Stored) (requests : List Request) (left : Stored) : Type 0 where
-  pub last : Stored
-  pub done : IsDone d pcbs store requests last
-  pub fails : FailsCommit true last.bytes last.committed left.committed
 
 -- Serving went on to the end of the session: up to there the input was the frames of requests, and over a sound store all of them were answered; how many
 -- calls there were, and how many found no memory.
@@ -374,10 +306,6 @@ abbrev pub IsDeskServed : Desk → SessionState → Option (List ℕ) → Desk �
 IsDeskServed desk s rest desk2 rest2 head old new n t = IsServedToTheEnd desk.limits s n.0 (unread desk rest) (unread desk2 rest2) head old new n.1.calls n.1.memory t
 
 -- ---- over a store, by what serving ended with
-
--- what stands in a store
-abbrev pub stored_in : {S : Type 0} → (S → List ℕ) → (S → Committed) → S → Stored
-stored_in contents committed store = record { bytes = contents store; committed = committed store }
 
 -- a service was made for a database and the PCBs of a program
 pub record IsServiceFor (d : Database) (pcbs : List View) (service : ServiceState) : Type 0 where

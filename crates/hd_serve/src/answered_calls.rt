@@ -4,7 +4,7 @@ ghost use Rattle.hd_dbd.specs.Hierarchy.{longest_path};
 ghost use Rattle.hd_session.specs.Turns.{StaysWhole};
 ghost use Rattle.hd_deck.specs.Runs.{memory_of};
 ghost use Rattle.hd_serve.specs.Frames.{frame_bytes};
-ghost use Rattle.hd_serve.specs.Requests.{ask};
+ghost use Rattle.hd_session.specs.Requests.{ask};
 ghost use Rattle.hd_serve.specs.Serves.{answered_bytes, ServesAll, IsServed, HaltsAt, IsHalted};
 
 use crate::answer::{put_answer, put_refusal};

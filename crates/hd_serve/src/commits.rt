@@ -3,7 +3,7 @@ ghost use Rattle.std.specs.Io.KnownBytes.{Appends};
 ghost use Rattle.hd_session.specs.Turns.{StaysWhole};
 ghost use Rattle.hd_serve.specs.Frames.{frame_bytes};
 ghost use Rattle.hd_serve.specs.Answers.{done_bytes};
-ghost use Rattle.hd_serve.specs.Requests.{commit};
+ghost use Rattle.hd_session.specs.Requests.{commit};
 ghost use Rattle.hd_serve.specs.Serves.{IsServed, HaltsAt, IsHalted};
 
 use crate::answer::{put_done, put_refusal};

@@ -6,7 +6,8 @@ ghost use Rattle.hd_stores.specs.Stores.{CountsFor, SoundFor};
 ghost use Rattle.hd_serve.specs.Frames.{frame_bytes};
 ghost use Rattle.hd_serve.specs.Answers.{done_bytes};
 ghost use Rattle.hd_serve.specs.Hello.{hello_bytes};
-ghost use Rattle.hd_serve.specs.Serves.{limits_of, IsServeFaultOf, IsBeforeCalls, NoService, fault_of, fault_refusal, IsServedOut, LeavesAt, IsWholeService, IsServiceFor, stored_in, unread, unread_by};
+ghost use Rattle.hd_deck.specs.Commits.{stored_in};
+ghost use Rattle.hd_serve.specs.Serves.{limits_of, IsServeFaultOf, IsBeforeCalls, NoService, fault_of, fault_refusal, IsServedOut, LeavesAt, IsWholeService, IsServiceFor, unread, unread_by};
 
 use crate::answer::DONE;
 use crate::desk::{Desk, Ending, Stop, serve_all};

@@ -134,7 +134,7 @@ module _ {I : Type 0} where
   fair_append types pcbs st [] ys f g = g
   fair_append types pcbs st (x ∷ xs) ys f g = (f.0, fair_append types pcbs (next_state types pcbs st x) xs ys f.1 g)
 
-  image_at_append : (xs ys : List (Entry I)) (middle last : I) → image_at ys last ≡ middle → image_at (xs ++ ys) last ≡ image_at xs middle
+  pub image_at_append : (xs ys : List (Entry I)) (middle last : I) → image_at ys last ≡ middle → image_at (xs ++ ys) last ≡ image_at xs middle
   image_at_append [] ys middle last e = e
   image_at_append (x ∷ xs) ys middle last e = refl
 

@@ -10,4 +10,5 @@ pub mod Inserts
 pub mod Opening
 pub mod Logged
 pub mod Turns
+pub mod Requests
 pub mod Laws

@@ -1,10 +1,10 @@
-ghost use Rattle.std.specs.Prelude.{◌≡◌, ◌-◌, ◌<◌, ◌≤◌, IsTrue, IfErr, OnOk, length};
+ghost use Rattle.std.specs.Prelude.{◌≡◌, ◌-◌, ◌<◌, ◌≤◌, IsTrue, IfErr, OnOk, OnErr, length};
 ghost use Rattle.hd_dbd.specs.Refusals.{OnlyDevice, OnlyMemory};
 ghost use Rattle.hd_bytes.specs.Blocks.{block_of, with_block, grown, HasBlock};
-ghost use Rattle.hd_stores.specs.Stores.{CountsDevice, StaysSound, RefusesGrowth};
+ghost use Rattle.hd_stores.specs.Stores.{IsCommit, FailsCommit, CountsDevice, StaysSound, RefusesGrowth};
 ghost use Rattle.hd_output.specs.Counts.{one_more};
 
-use crate::store::BlockStore;
+use crate::store::{BlockStore, CommitStore};
 use hd_dbd::Refused;
 use hd_output::Progress;
 use std::marker::Model;
@@ -14,7 +14,7 @@ const OFTEN: u64 = 256;
 
 /// A store that passes all accesses on to another, counts them, and now and then tells how many there were.
 ///
-/// An access is a `read`, a `write` or a `grow`. All answers and all bytes are those of the store below.
+/// An access is a `read`, a `write` or a `grow`; a commit is none. All answers and all bytes are those of the store below.
 #[derive(Drop)]
 pub struct Counted<'p, S: BlockStore, P: Progress> {
     inner: S,
@@ -156,5 +156,20 @@ impl<'p, S: BlockStore, P: Progress> BlockStore for Counted<'p, S, P> {
     {
         self.note();
         self.inner.grow(blocks)
+    }
+}
+
+impl<'p, S: CommitStore, P: Progress> CommitStore for Counted<'p, S, P> {
+    fn commit(&mut self) -> Result<(), Refused>
+        ensures counted { self.new.accesses ≡ self.old.accesses }
+        ensures committed { OnOk result (IsCommit (S.is_sound self.old.inner) (S.contents self.old.inner) (S.contents self.new.inner) (S.committed self.old.inner) (S.committed self.new.inner)) }
+        ensures fails { OnErr result (FailsCommit (S.is_sound self.old.inner) (S.contents self.old.inner) (S.committed self.old.inner) (S.committed self.new.inner)) }
+        ensures refusal { OnlyDevice result }
+        ensures counts { CountsDevice result (S.failures self.old.inner) (S.failures self.new.inner) }
+        ensures sound { StaysSound result (S.is_sound self.old.inner) (S.is_sound self.new.inner) }
+        ensures size { S.size self.new.inner ≡ S.size self.old.inner }
+        ensures room { S.room self.new.inner ≡ S.room self.old.inner }
+    {
+        self.inner.commit()
     }
 }

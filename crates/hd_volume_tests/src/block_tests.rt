@@ -40,7 +40,7 @@ fn reads_and_joins_the_parts_of_a_block(rt: HostRuntime) {
     assert!(rt; has_parts(&block, &parts));
     block.give(8, 16);
     block.give(24, 40);
-    assert_eq!(rt; block.take(128), None);
+    assert!(rt; block.take(128).is_none());
     assert!(rt; has_parts(&block, &[Part::Free(8, 120)]));
 }
 
@@ -48,12 +48,12 @@ fn reads_and_joins_the_parts_of_a_block(rt: HostRuntime) {
 fn takes_a_hole_behind_one_that_is_too_small(rt: HostRuntime) {
     let mut bytes = sample_block();
     Block::new(&mut bytes, &SIZES).give(8, 16);
-    assert_eq!(rt; &bytes[..2], b"\0\x08".as_slice());
-    assert_eq!(rt; &bytes[8..16], b"\0\x40\0\x10\0\0\0\0".as_slice());
-    assert_eq!(rt; Block::new(&mut bytes, &SIZES).take(24), Some(64));
-    assert_eq!(rt; &bytes[..2], b"\0\x08".as_slice());
-    assert_eq!(rt; &bytes[8..16], b"\0\x58\0\x10\0\0\0\0".as_slice());
-    assert_eq!(rt; &bytes[88..96], b"\0\0\0\x28\0\0\0\0".as_slice());
+    assert!(rt; &bytes[..2] == b"\0\x08".as_slice());
+    assert!(rt; &bytes[8..16] == b"\0\x40\0\x10\0\0\0\0".as_slice());
+    assert!(rt; Block::new(&mut bytes, &SIZES).take(24) == Some(64));
+    assert!(rt; &bytes[..2] == b"\0\x08".as_slice());
+    assert!(rt; &bytes[8..16] == b"\0\x58\0\x10\0\0\0\0".as_slice());
+    assert!(rt; &bytes[88..96] == b"\0\0\0\x28\0\0\0\0".as_slice());
 }
 
 /// The address in a pointer of a segment of the sample; `None` where the segment is too short for its type's prefix.
@@ -91,18 +91,17 @@ fn reads_the_fields_of_the_sample(rt: HostRuntime) {
         (200, Pointer::TwinBackward, 0),
     ] {
         let segment = image.get(place..).unwrap_or(&[]);
-        assert_eq!(rt;
-            address_in(&dbd, segment, pointer),
-            Some(address),
+        assert!(rt;
+            address_in(&dbd, segment, pointer) == Some(address),
             "{place}"
         );
     }
-    assert_eq!(rt; bytes_in(&dbd, &image[136..176]), b"101ALGEB".as_slice());
-    assert_eq!(rt; bytes_in(&dbd, &image[176..200]), b"01AB".as_slice());
-    assert_eq!(rt; bytes_in(&dbd, &image[200..216]), b"ADAM01".as_slice());
-    assert_eq!(rt; bytes_in(&dbd, &image[264..280]), b"EULER".as_slice());
+    assert!(rt; bytes_in(&dbd, &image[136..176]) == b"101ALGEB".as_slice());
+    assert!(rt; bytes_in(&dbd, &image[176..200]) == b"01AB".as_slice());
+    assert!(rt; bytes_in(&dbd, &image[200..216]) == b"ADAM01".as_slice());
+    assert!(rt; bytes_in(&dbd, &image[264..280]) == b"EULER".as_slice());
     let book = &image[264..280];
-    assert_eq!(rt; (code_of(book), delete_byte_of(book)), (4, 0));
+    assert!(rt; (code_of(book), delete_byte_of(book)) == (4, 0));
 }
 
 /// A new segment of a row of a type, of at most 255 bytes, if it fits and the room has the size that it takes; with an address in its twin backward.
@@ -128,12 +127,12 @@ fn says_where_pointers_stand_and_writes_them(rt: HostRuntime) {
         (3, Pointer::TwinBackward, None),
         (5, Pointer::TwinForward, None),
     ] {
-        assert_eq!(rt; Layout::of(&dbd, code).place_of(pointer), place, "{code}");
+        assert!(rt; Layout::of(&dbd, code).place_of(pointer) == place, "{code}");
     }
-    assert_eq!(rt; Layout::of(&dbd, 5).prefix_length(), 0);
+    assert!(rt; Layout::of(&dbd, 5).prefix_length() == 0);
     let mut book = [0xffu8; 16];
     make(&dbd, 4, &mut book, b"EULER", 0);
-    assert_eq!(rt; book, *b"\x04\0\0\0\0\0\0\0\0\0EULER\0");
+    assert!(rt; book == *b"\x04\0\0\0\0\0\0\0\0\0EULER\0");
     make(&dbd, 4, &mut book, b"EULER", 264);
-    assert_eq!(rt; book, *b"\x04\0\0\0\0\0\0\0\x01\x08EULER\0");
+    assert!(rt; book == *b"\x04\0\0\0\0\0\0\0\x01\x08EULER\0");
 }

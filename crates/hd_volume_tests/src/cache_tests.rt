@@ -1,11 +1,11 @@
 //! Tests that compare the answers and bytes of a cache, and of a store that reads ahead, with a plain store's; that count the accesses of the
 //! store below; and in which those fail, and growths find no memory.
 use crate::chance::Chance;
-use crate::stores::{answers_of, failures_of, take_step, watched_store, zeros};
+use crate::stores::{TestStore, answers_of, failures_of, take_step, zeros};
 use crate::text::{is_end, line_of};
 use hd_dbd::Refused;
 use hd_sample::byte_at;
-use hd_stores::{BlockStore, Cached, FuseStore, ReadAhead};
+use hd_stores::{BlockStore, Cached, ReadAhead};
 use std::alloc::{AllocError, Global};
 use std::test::Fail;
 
@@ -49,9 +49,8 @@ fn random_steps(alloc: Global, seed: u64, count: u32) -> Result<Vec<u8>, AllocEr
 /// step is taken again. Says how many steps and flushes failed, and, where all was written in the end, how many accesses came below; `None` where
 /// the two disagree.
 fn compared(alloc: Global, steps: &[u8], blocks: usize, passes: u64) -> Option<(u32, Option<u64>)> {
-    let mut plain = zeros(alloc, 8).ok()?;
-    let store = FuseStore::new(zeros(alloc, 8).ok()?, passes);
-    let mut cache = cache_of(alloc, store, blocks)?;
+    let mut plain = zeros(alloc, 8, u64::MAX).ok()?;
+    let mut cache = cache_of(alloc, zeros(alloc, 8, passes).ok()?, blocks)?;
     let mut failures = 0u32;
     for piece in steps.split(is_flush) {
         let failed = failures_of(&mut cache, &mut plain, piece)?;
@@ -62,11 +61,10 @@ fn compared(alloc: Global, steps: &[u8], blocks: usize, passes: u64) -> Option<(
     if written.is_err() {
         return Some((failures, None));
     }
-    let accesses = store.accesses();
-    if store.into_inner().into_bytes().as_slice() != plain.into_bytes().as_slice() {
+    if store.bytes != plain.bytes {
         return None;
     }
-    Some((failures, Some(accesses)))
+    Some((failures, Some(store.accesses)))
 }
 
 /// A cache of few or many blocks answers as a plain store does, and leaves the same bytes.
@@ -119,7 +117,7 @@ fn a_cache_reads_and_writes_a_block_once(rt: HostRuntime) {
         let line = line_of(text, 0);
         let told = compared(rt.alloc(), line.bytes, line.numbers[1] as usize, u64::MAX);
         let wanted = u64::from(line.wanted[0]);
-        assert_eq!(rt; told, Some((0, Some(wanted))), "{text:?}");
+        assert!(rt; told == Some((0, Some(wanted))), "{wanted}");
     }
 }
 
@@ -162,7 +160,7 @@ fn takes_all<S: BlockStore>(store: &mut S, steps: &[u8]) -> bool {
 /// Takes the steps of versions in a cache, until the access below after so many fails, and all that comes after it. Whether none failed; `None`
 /// where the store is left with a block 0 that is newer than another block, or, though none failed, with an older version than the last.
 fn left_behind(alloc: Global, steps: &[u8], blocks: usize, passes: u64) -> Option<bool> {
-    let store = FuseStore::new(FuseStore::new(zeros(alloc, 6).ok()?, passes), passes);
+    let store = zeros(alloc, 6, passes).ok()?.fail(2);
     let mut cache = cache_of(alloc, store, blocks)?;
     let mut is_done = true;
     for piece in steps.split(is_flush) {
@@ -170,9 +168,12 @@ fn left_behind(alloc: Global, steps: &[u8], blocks: usize, passes: u64) -> Optio
     }
     let (store, written) = cache.into_store();
     let is_done = is_done && written.is_ok();
-    let bytes = store.into_inner().into_inner().into_bytes();
-    let least = if is_done { b'3' } else { byte_at(&bytes, 0) };
-    for block in bytes.chunks(4).take(6) {
+    let least = if is_done {
+        b'3'
+    } else {
+        byte_at(&store.bytes, 0)
+    };
+    for block in store.bytes.chunks(4).take(6) {
         if byte_at(block, 0) < least {
             return None;
         }
@@ -203,7 +204,7 @@ fn a_cache_never_leaves_a_new_block_0_over_old_blocks(rt: HostRuntime) -> Result
 /// Grows a store of one block through a cache six times, each time by a block once the last has been written, where the growth after so many finds
 /// no memory, and is then made again. Says which it was; `None` where anything is answered otherwise, or lost.
 fn refused_growth(alloc: Global, blocks: usize, grows: u32) -> Option<u8> {
-    let store = watched_store(alloc, 1, grows, u64::MAX).ok()?;
+    let store = zeros(alloc, 1, u64::MAX).ok()?.with_little_memory(grows);
     let mut cache = cache_of(alloc, store, blocks)?;
     let mut refused = None;
     for n in 0..6u8 {
@@ -221,9 +222,8 @@ fn refused_growth(alloc: Global, blocks: usize, grows: u32) -> Option<u8> {
         }
     }
     let (store, written) = cache.into_store();
-    let bytes = store.into_inner().inner.into_bytes();
-    let kept = bytes.get(..24) == Some([b'7'; 24].as_slice());
-    if written.is_err() || bytes.len() != 31 || !kept {
+    let kept = store.bytes.get(..24) == Some([b'7'; 24].as_slice());
+    if written.is_err() || store.bytes.len() != 31 || !kept {
         return None;
     }
     refused
@@ -234,28 +234,26 @@ fn a_cache_tells_of_each_growth_that_finds_no_memory(rt: HostRuntime) {
     for blocks in [1usize, 2, 64] {
         for grows in 0..6u8 {
             let refused = refused_growth(rt.alloc(), blocks, u32::from(grows));
-            assert_eq!(rt; refused, Some(grows), "{blocks}");
+            assert!(rt; refused == Some(grows), "{blocks}");
         }
     }
 }
 
 /// Whether a store that reads ahead answers steps as a plain store does, and leaves the same bytes; and so a cache of two blocks before it.
 fn ahead_agrees(alloc: Global, steps: &[u8]) -> Option<bool> {
-    let mut plain = zeros(alloc, 8).ok()?;
-    let mut ahead = ReadAhead::new(alloc, zeros(alloc, 8).ok()?);
+    let mut plain = zeros(alloc, 8, u64::MAX).ok()?;
+    let mut ahead = ReadAhead::new(alloc, zeros(alloc, 8, u64::MAX).ok()?);
     let alone = failures_of(&mut ahead, &mut plain, steps)?;
-    let mut plain_too = zeros(alloc, 8).ok()?;
-    let below = ReadAhead::new(alloc, zeros(alloc, 8).ok()?);
+    let mut plain_too = zeros(alloc, 8, u64::MAX).ok()?;
+    let below = ReadAhead::new(alloc, zeros(alloc, 8, u64::MAX).ok()?);
     let mut cache = cache_of(alloc, below, 2)?;
     let behind = failures_of(&mut cache, &mut plain_too, steps)?;
-    let bytes = plain.into_bytes();
     let (below, written) = cache.into_store();
+    let is_right = alone == 0 && behind == 0 && written.is_ok();
     Some(
-        alone == 0
-            && behind == 0
-            && written.is_ok()
-            && ahead.into_store().into_bytes().as_slice() == bytes.as_slice()
-            && below.into_store().into_bytes().as_slice() == bytes.as_slice(),
+        is_right
+            && ahead.into_store().bytes == plain.bytes
+            && below.into_store().bytes == plain.bytes,
     )
 }
 
@@ -263,7 +261,7 @@ fn ahead_agrees(alloc: Global, steps: &[u8]) -> Option<bool> {
 fn a_store_that_reads_ahead_answers_as_a_plain_store_does(rt: HostRuntime) -> Result<(), Fail> {
     for seed in 0..60 {
         let steps = random_steps(rt.alloc(), seed, 400)?;
-        assert_eq!(rt; ahead_agrees(rt.alloc(), &steps), Some(true), "{seed}");
+        assert!(rt; ahead_agrees(rt.alloc(), &steps) == Some(true), "{seed}");
     }
     Ok(())
 }
@@ -271,8 +269,7 @@ fn a_store_that_reads_ahead_answers_as_a_plain_store_does(rt: HostRuntime) -> Re
 /// How often a store of 100 blocks is read for one block and for several, where it is asked for so many blocks, from the first on and so far apart;
 /// and how often `Device` is answered, where the access after so many fails.
 fn reads_of(alloc: Global, first: u8, apart: u8, count: u8, passes: u64) -> Option<[u32; 3]> {
-    let store = watched_store(alloc, 100, 0, passes).ok()?;
-    let mut ahead = ReadAhead::new(alloc, store);
+    let mut ahead = ReadAhead::new(alloc, zeros(alloc, 100, passes).ok()?);
     let mut refusals = 0u32;
     let mut digit = b'0'.saturating_add(first);
     for _ in 0..count {
@@ -285,7 +282,7 @@ fn reads_of(alloc: Global, first: u8, apart: u8, count: u8, passes: u64) -> Opti
         }
         digit = digit.saturating_add(apart);
     }
-    let store = ahead.into_store().into_inner();
+    let store = ahead.into_store();
     Some([store.alone, store.runs, refusals])
 }
 
@@ -293,19 +290,19 @@ fn reads_of(alloc: Global, first: u8, apart: u8, count: u8, passes: u64) -> Opti
 fn reads_ahead_where_blocks_come_in_order(rt: HostRuntime) -> Result<(), Fail> {
     let alloc = rt.alloc();
     // 2, 4, 8, 16, 32 and the 38 that are left
-    assert_eq!(rt; reads_of(alloc, 0, 1, 100, u64::MAX), Some([0, 6, 0]));
+    assert!(rt; reads_of(alloc, 0, 1, 100, u64::MAX) == Some([0, 6, 0]));
     // each fourth, of which the first comes in order
-    assert_eq!(rt; reads_of(alloc, 0, 4, 25, u64::MAX), Some([24, 1, 0]));
+    assert!(rt; reads_of(alloc, 0, 4, 25, u64::MAX) == Some([24, 1, 0]));
     // the same block again and again
-    assert_eq!(rt; reads_of(alloc, 7, 0, 50, u64::MAX), Some([50, 0, 0]));
+    assert!(rt; reads_of(alloc, 7, 0, 50, u64::MAX) == Some([50, 0, 0]));
     // 30 blocks in order take accesses for 2, 4, 8 and 16 of them, of which each in turn fails, and then none
     for passes in 0..5u8 {
         let told = reads_of(alloc, 0, 1, 30, u64::from(passes)).expect(&rt, "reads");
-        assert_eq!(rt; told[2], if passes < 4 { 1 } else { 0 }, "{passes}");
+        assert!(rt; told[2] == if passes < 4 { 1 } else { 0 }, "{passes}");
     }
     // a block is read anew behind a write
-    let mut ahead = ReadAhead::new(alloc, watched_store(alloc, 8, 0, u64::MAX)?);
+    let mut ahead = ReadAhead::new(alloc, zeros(alloc, 8, u64::MAX)?);
     let answers = answers_of(&mut ahead, b"r0 r1 r2 w49r3 r4 r5 ");
-    assert_eq!(rt; answers, *b"\0\0\x009\x009\0 ");
+    assert!(rt; answers == *b"\0\0\x009\x009\0 ");
     Ok(())
 }

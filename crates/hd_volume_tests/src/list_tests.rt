@@ -287,7 +287,7 @@ fn plays_lists(rt: HostRuntime) -> Result<(), Fail> {
     let blocks = three_blocks(rt.alloc())?;
     for (number, list) in LISTS.split(is_list_end).enumerate() {
         let (wrong, _, bytes) = list_outcome(rt.alloc(), list, u64::MAX).expect(&rt, "a volume");
-        assert_eq!(rt; wrong, Ok(None), "list {number}");
+        assert!(rt; wrong == Ok(None), "list {number}");
         assert!(rt; shows_all(&bytes, list, &blocks), "list {number}");
     }
     Ok(())
@@ -302,7 +302,7 @@ fn answers_device_at_each_access(rt: HostRuntime) {
             assert!(rt; all > 4, "list {number}: {all} accesses");
             for passes in 0..all {
                 let (wrong, _, _) = list_outcome(rt.alloc(), list, passes).expect(&rt, "a volume");
-                assert_eq!(rt; wrong, Err(Refused::Device), "list {number}: {passes}");
+                assert!(rt; wrong == Err(Refused::Device), "list {number}: {passes}");
             }
         }
     }
@@ -322,9 +322,9 @@ fn links_the_sample_row_by_row(rt: HostRuntime) {
         put(&mut want, 274, book);
         let lists = [SAMPLE, list];
         let (wrong, _, bytes) = outcome_of(alloc, &dbd, Vec::new(alloc), lists, u64::MAX);
-        assert_eq!(rt; wrong, Ok(None));
-        assert_eq!(rt; bytes.get(28..36), want.get(28..36));
-        assert_eq!(rt; bytes.get(128..), want.get(128..384));
+        assert!(rt; wrong == Ok(None));
+        assert!(rt; bytes.get(28..36) == want.get(28..36));
+        assert!(rt; bytes.get(128..) == want.get(128..384));
     }
 }
 
@@ -363,9 +363,9 @@ fn reads_no_block_in_vain(rt: HostRuntime) {
     let dbd = database(alloc).expect(&rt, "a database");
     let lists = [b"put 5000 10\nend".as_slice(), b""];
     let (wrong, accesses, bytes) = outcome_of(alloc, &dbd, Vec::new(alloc), lists, u64::MAX);
-    assert_eq!(rt; wrong, Ok(None));
+    assert!(rt; wrong == Ok(None));
     // block 0 is read; each block is added and written once
-    assert_eq!(rt; accesses, 1 + 2 * (bytes.len() as u64 / 128));
+    assert!(rt; accesses == 1 + 2 * (bytes.len() as u64 / 128));
     assert!(rt; has_bytes(&bytes, 0, b"HDVOLUME\0\x03\0\x80"));
     assert!(rt; has_bytes(&bytes, 16, b"\0\0\x04\0EDU     "));
     assert!(rt; has_bytes(&bytes, 28, &[0; 20]));
@@ -391,7 +391,7 @@ fn writes_block_0_after_all_others(rt: HostRuntime) -> Result<(), Fail> {
         );
         last = bytes;
     }
-    assert_eq!(rt; last.get(..128), old.get(..128));
-    assert_eq!(rt; last.get(128..), new.get(128..));
+    assert!(rt; last.get(..128) == old.get(..128));
+    assert!(rt; last.get(128..) == new.get(128..));
     Ok(())
 }

@@ -215,5 +215,5 @@ fn agrees_with_a_plain_list(rt: HostRuntime) {
     let dbd = database(alloc).expect(&rt, "a database");
     let opened = Trial::over(alloc, &dbd, Vec::new(alloc), 1024, u64::MAX);
     let mut trial = opened.ok().expect(&rt, "a volume");
-    assert_eq!(rt; play(alloc, &mut trial, 2000), Ok(None));
+    assert!(rt; play(alloc, &mut trial, 2000) == Ok(None));
 }

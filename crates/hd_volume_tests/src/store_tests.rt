@@ -23,10 +23,10 @@ fn three_blocks(alloc: Global) -> Result<MemStore, AllocError> {
 fn keeps_blocks_in_memory(rt: HostRuntime) -> Result<(), Fail> {
     let mut store = three_blocks(rt.alloc())?;
     let answers = answers_of(&mut store, b"v2 g2 w37r3 r4 ");
-    assert_eq!(rt; answers, *b"..77\0   ");
-    assert_eq!(rt; (store.block_size(), store.length()), (4, 20));
+    assert!(rt; answers == *b"..77\0   ");
+    assert!(rt; (store.block_size(), store.length()) == (4, 20));
     let want = b"\0\0\0\0\0\0\0\0\0\0\0\x007777\0\0\0\0";
-    assert_eq!(rt; store.into_bytes().as_slice(), want.as_slice());
+    assert!(rt; store.into_bytes().as_slice() == want.as_slice());
     Ok(())
 }
 
@@ -35,9 +35,9 @@ fn finds_no_memory_for_all_blocks(rt: HostRuntime) -> Result<(), Fail> {
     let mut bytes = Vec::new(rt.alloc());
     bytes.push(5)?;
     let mut store = MemStore::new(32768, bytes);
-    assert_eq!(rt; store.reserve(u32::MAX), Err(Refused::Memory));
-    assert_eq!(rt; store.grow(u32::MAX), Err(Refused::Memory));
-    assert_eq!(rt; store.into_bytes().as_slice(), [5].as_slice());
+    assert!(rt; store.reserve(u32::MAX) == Err(Refused::Memory));
+    assert!(rt; store.grow(u32::MAX) == Err(Refused::Memory));
+    assert!(rt; store.into_bytes().as_slice() == [5].as_slice());
     Ok(())
 }
 
@@ -48,12 +48,12 @@ fn fails_one_access(rt: HostRuntime) -> Result<(), Fail> {
     for (passes, wanted) in cases.split(is_end).enumerate() {
         let mut store = FuseStore::new(three_blocks(rt.alloc())?, passes as u64);
         let answers = answers_of(&mut store, b"g3 w01w22r0 r2 ");
-        assert_eq!(rt; answers.get(..5), Some(wanted));
-        assert_eq!(rt; store.accesses(), 5);
+        assert!(rt; answers.get(..5) == Some(wanted));
+        assert!(rt; store.accesses() == 5);
         let bytes = store.into_inner().into_bytes();
-        assert_eq!(rt; bytes.len(), if passes == 0 { 12 } else { 24 });
-        assert_eq!(rt; bytes.first(), Some(&if passes == 1 { 0 } else { b'1' }));
-        assert_eq!(rt; bytes.get(8), Some(&if passes == 2 { 0 } else { b'2' }));
+        assert!(rt; bytes.len() == if passes == 0 { 12 } else { 24 });
+        assert!(rt; bytes.first() == Some(&if passes == 1 { 0 } else { b'1' }));
+        assert!(rt; bytes.get(8) == Some(&if passes == 2 { 0 } else { b'2' }));
     }
     Ok(())
 }
@@ -150,13 +150,13 @@ fn keeps_blocks_in_a_file(rt: HostRuntime) -> Result<(), Fail> {
         }
         let mut text = Vec::new(rt.alloc());
         let told = play(file, steps, &mut text)?;
-        assert_eq!(rt; text.as_slice(), answers, "{name}");
-        assert_eq!(rt; (told, fs::read(&rt, name)?.len()), (length, end), "{name}");
+        assert!(rt; text.as_slice() == answers, "{name}");
+        assert!(rt;
+            (told, fs::read(&rt, name)?.len()) == (length, end),
+            "{name}"
+        );
     }
-    assert_eq!(rt;
-        fs::read(&rt, "blocks")?.as_slice(),
-        b"\0\0\0\x009999".as_slice()
-    );
+    assert!(rt; fs::read(&rt, "blocks")?.as_slice() == b"\0\0\0\x009999".as_slice());
     for name in ["blocks", "grown", "passed", "odd"] {
         fs::remove_file(&rt, name)?;
     }
@@ -169,7 +169,7 @@ fn tells_of_a_full_device(rt: HostRuntime) -> Result<(), Fail> {
     old.read(true).write(true);
     let mut text = Vec::new(rt.alloc());
     let length = play(old.open(&rt, "/dev/full")?, b"v2 g2 w19r1 r3 ", &mut text)?;
-    assert_eq!(rt; text.as_slice(), b".dd.\0\0\0\0.\0\0\0\0".as_slice());
-    assert_eq!(rt; length, 0);
+    assert!(rt; text.as_slice() == b".dd.\0\0\0\0.\0\0\0\0".as_slice());
+    assert!(rt; length == 0);
     Ok(())
 }

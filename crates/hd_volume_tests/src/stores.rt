@@ -1,103 +1,183 @@
 //! Stores of blocks of four bytes, and steps that they take.
-ghost use Rattle.hd_stores.specs.Stores.{uncommitted};
-ghost use Rattle.std.specs.Prelude.{◌≡◌, ◌≤◌, IsTrue, IfOk, true};
+ghost use Rattle.hd_stores.specs.Stores.{uncommitted, CountsDevice};
+ghost use Rattle.hd_dbd.specs.Refusals.{OnlyDevice};
+ghost use Rattle.std.specs.Prelude.{◌≡◌, ◌≤◌, ◌<◌, [], length, IsTrue, IfOk, true, false};
 ghost use Rattle.hd_bytes.specs.Blocks.{HasBlock};
 
 use hd_dbd::Refused;
-use hd_stores::{BlockStore, FuseStore, MemStore, RunStore};
+use hd_sample::put;
+use hd_stores::{BlockStore, RunStore};
 use std::alloc::{AllocError, Global};
 
-/// A store in memory that counts how its blocks are read, that reserves nothing, and whose growth after so many finds no memory.
+/// A store in memory, of which no contract says anything: behind so many accesses one or more fail, and all others pass; where memory is short it
+/// reserves nothing, and the growth after so many finds none. An access is a read, a write or a growth.
 #[derive(Drop)]
-pub struct Watched {
-    pub inner: MemStore,
+pub struct TestStore {
+    pub bytes: Vec<u8>,
+    /// How many accesses came, those that failed among them; and how many of these read one block, and how many several.
+    pub accesses: u64,
     pub alone: u32,
     pub runs: u32,
-    pub grows: u32,
+    size: usize,
+    passes: u64,
+    failing: u32,
+    failures: u32,
+    /// How many growths find memory before the one that does not, where memory is short.
+    grows: Option<u32>,
+    room: u32,
+    ghost some: { 0 < size },
+    ghost small: { size ≤ 32768 },
 }
 
-impl BlockStore for Watched {
-    ghost size = { λ s. s.inner.size };
+impl TestStore {
+    /// The store of these bytes, which fails the access behind so many.
+    pub fn new(size: usize, bytes: Vec<u8>, passes: u64) -> TestStore
+        requires some { 0 < size }
+        requires small { size ≤ 32768 }
+        ensures { result.size ≡ size }
+    {
+        TestStore {
+            bytes,
+            accesses: 0,
+            alone: 0,
+            runs: 0,
+            size,
+            passes,
+            failing: 1,
+            failures: 0,
+            grows: None,
+            room: 0,
+        }
+    }
 
-    ghost contents = { λ s. s.inner.contents };
+    /// The store fails so many accesses, one behind the other.
+    pub fn fail(mut self, count: u32) -> TestStore
+        ensures { result.size ≡ self.size }
+    {
+        self.failing = count;
+        self
+    }
 
-    ghost is_sound = { λ _. true };
+    /// The store reserves nothing, and the growth after so many finds no memory.
+    pub fn with_little_memory(mut self, grows: u32) -> TestStore
+        ensures { result.size ≡ self.size }
+    {
+        self.grows = Some(grows);
+        self
+    }
 
-    ghost failures = { λ _. 0 };
+    /// Counts an access. `Device` says that it is one that fails.
+    fn spend(&mut self) -> Result<(), Refused>
+        ensures refusal { OnlyDevice result }
+        ensures counts { CountsDevice result self.old.failures self.new.failures }
+        ensures size { self.new.size ≡ self.old.size }
+        ensures room { self.new.room ≡ self.old.room }
+    {
+        self.accesses = self.accesses.saturating_add(1);
+        if self.passes == 0 && self.failures < self.failing {
+            self.failures += 1;
+            return Err(Refused::Device);
+        }
+        self.passes = self.passes.saturating_sub(1);
+        Ok(())
+    }
 
-    ghost room = { λ _. 0 };
+    /// Whether a growth finds memory. It is counted.
+    fn finds_memory(&mut self) -> bool
+        ensures size { self.new.size ≡ self.old.size }
+        ensures room { self.new.room ≡ self.old.room }
+        ensures failures { self.new.failures ≡ self.old.failures }
+    {
+        let Some(left) = self.grows else {
+            return true;
+        };
+        self.grows = Some(left.wrapping_sub(1));
+        left != 0
+    }
+
+    /// Copies the bytes from a block on.
+    fn copy(&self, n: u32, buf: &mut [u8])
+        ensures { length buf.new ≡ length buf.old }
+    {
+        let start = n as usize * self.size;
+        put(buf, 0, self.bytes.get(start..).unwrap_or(&[]));
+    }
+}
+
+impl BlockStore for TestStore {
+    ghost size = { λ s. s.size };
+
+    ghost contents = { λ _. [] };
+
+    ghost is_sound = { λ _. false };
+
+    ghost failures = { λ s. s.failures };
+
+    ghost room = { λ s. s.room };
 
     ghost committed = { λ _. uncommitted };
 
     fn block_size(&self) -> usize {
-        self.inner.block_size()
+        self.size
     }
 
     fn length(&self) -> u64 {
-        self.inner.length()
+        self.bytes.len() as u64
     }
 
     fn read(&mut self, n: u32, buf: &mut [u8]) -> Result<(), Refused> {
+        self.spend()?;
         self.alone = self.alone.saturating_add(1);
-        self.inner.read(n, buf)
+        self.copy(n, buf);
+        Ok(())
     }
 
     fn write(&mut self, n: u32, bytes: &[u8]) -> Result<(), Refused> {
-        self.inner.write(n, bytes)
+        self.spend()?;
+        let start = self.bytes.len().min(n as usize * self.size);
+        put(&mut self.bytes[start..], 0, bytes);
+        Ok(())
     }
 
     fn reserve(&mut self, blocks: u32) -> Result<(), Refused> {
-        if blocks > 0 {
+        if blocks <= self.room {
+            return Ok(());
+        }
+        if self.grows.is_some() {
             return Err(Refused::Memory);
         }
+        self.room = blocks;
         Ok(())
     }
 
     fn grow(&mut self, blocks: u32) -> Result<(), Refused> {
-        if blocks > 0 {
-            if self.grows == 0 {
-                self.grows = u32::MAX;
-                return Err(Refused::Memory);
-            }
-            self.grows -= 1;
+        self.spend()?;
+        if blocks > self.room && !self.finds_memory() {
+            return Err(Refused::Memory);
         }
-        self.inner.grow(blocks)
+        let length = self.bytes.len().saturating_add(blocks as usize * self.size);
+        let _ = self.bytes.resize(length, 0);
+        self.room = self.room.saturating_sub(blocks);
+        Ok(())
     }
 }
 
-impl RunStore for Watched {
+impl RunStore for TestStore {
     fn read_run(&mut self, n: u32, buf: &mut [u8]) -> Result<(), Refused> {
+        self.spend()?;
         self.runs = self.runs.saturating_add(1);
-        self.inner.read_run(n, buf)
+        self.copy(n, buf);
+        Ok(())
     }
 }
 
-/// A store of so many blocks of zeros, and a piece of one.
-pub fn zeros(alloc: Global, blocks: usize) -> Result<MemStore, AllocError>
-    requires { blocks ≤ 1000 }
+/// A store of so many blocks of four zeros, and a piece of one, which fails the access behind so many.
+pub fn zeros(alloc: Global, blocks: usize, passes: u64) -> Result<TestStore, AllocError>
     ensures { IfOk result (λ store. store.size ≡ 4) }
 {
     let mut bytes = Vec::new(alloc);
-    bytes.resize(blocks * 4 + 3, 0)?;
-    Ok(MemStore::new(4, bytes))
-}
-
-/// Such a store that is watched, the growth of which after so many finds no memory, behind a fuse.
-pub fn watched_store(
-    alloc: Global,
-    blocks: usize,
-    grows: u32,
-    passes: u64,
-) -> Result<FuseStore<Watched>, AllocError>
-    requires { blocks ≤ 1000 }
-{
-    let store = Watched {
-        inner: zeros(alloc, blocks)?,
-        alone: 0,
-        runs: 0,
-        grows,
-    };
-    Ok(FuseStore::new(store, passes))
+    bytes.resize(blocks.saturating_mul(4).saturating_add(3), 0)?;
+    Ok(TestStore::new(4, bytes, passes))
 }
 
 /// The store has blocks of four bytes and such a block.
@@ -168,7 +248,7 @@ pub fn answers_of<S: BlockStore>(store: &mut S, steps: &[u8]) -> [u8; 8] {
 /// answer otherwise.
 pub fn failures_of<S: BlockStore>(
     store: &mut S,
-    plain: &mut MemStore,
+    plain: &mut TestStore,
     steps: &[u8],
 ) -> Option<u32> {
     let mut failures = 0u32;

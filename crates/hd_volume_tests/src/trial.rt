@@ -3,42 +3,22 @@ ghost use Rattle.std.specs.Prelude.{◌≡◌, ◌≤◌, ◌<◌, length, true,
 ghost use Rattle.hd_dbd.specs.Facts.{stored_sizes};
 ghost use Rattle.hd_block.specs.Sizes.{size_at};
 
+use crate::stores::TestStore;
 use hd_dbd::{Dbd, Refused};
 use hd_forest::{Path, link, replace};
 use hd_index::{growth, insert};
 use hd_index_blocks::root_key_length;
-use hd_stores::{BlockStore, FuseStore, MemStore};
 use hd_volume::Volume;
 use std::alloc::Global;
-
-/// A store in memory that has failed once, so that no contract says anything of it, behind a fuse: it serves each access but one.
-pub type Store = FuseStore<FuseStore<MemStore>>;
 
 /// A volume of a database over such a store.
 #[derive(Drop)]
 pub struct Trial<'a> {
-    pub volume: Volume<Store>,
+    pub volume: Volume<TestStore>,
     pub dbd: &'a Dbd,
     ghost unsound: { volume.is_sound ≡ false },
     ghost size: { volume.size ≡ dbd.now.block_size },
     ghost sizes: { volume.sizes ≡ stored_sizes dbd.now.types },
-}
-
-/// The store of these bytes, which fails the access behind so many.
-fn store_of(size: usize, bytes: Vec<u8>, passes: u64) -> Store
-    requires { (0 < size) × (size ≤ 32768) }
-    ensures blown { result.inner.is_blown ≡ true }
-    ensures size { result.inner.inner.size ≡ size }
-{
-    let mut store = FuseStore::new(MemStore::new(size, bytes), 0);
-    let _ = store.grow(0);
-    FuseStore::new(store, passes)
-}
-
-/// The bytes of a store, and how many accesses came to it.
-fn closed(store: Store) -> (Vec<u8>, u64) {
-    let accesses = store.accesses();
-    (store.into_inner().into_inner().into_bytes(), accesses)
 }
 
 /// A segment has its type's size, where no type's segments vary in length.
@@ -67,7 +47,7 @@ impl<'a> Trial<'a> {
         requires { (0 < largest) × (largest ≤ 65536) }
     {
         let is_new = bytes.is_empty();
-        let store = store_of(dbd.block_size() as usize, bytes, passes);
+        let store = TestStore::new(dbd.block_size() as usize, bytes, passes);
         let (store, refused) = if is_new {
             match Volume::create(alloc, store, dbd, largest) {
                 Ok(volume) => return Ok(Trial { volume, dbd }),
@@ -79,14 +59,14 @@ impl<'a> Trial<'a> {
                 Err(given) => given,
             }
         };
-        let (bytes, accesses) = closed(store);
-        Err((bytes, accesses, refused))
+        Err((store.bytes, store.accesses, refused))
     }
 
     /// The bytes of the store, and how many accesses came to it.
     pub fn close(self) -> (Vec<u8>, u64) {
         let Trial { volume, dbd: _ } = self;
-        closed(volume.into_store())
+        let store = volume.into_store();
+        (store.bytes, store.accesses)
     }
 
     /// Puts a segment of its type's size, or writes it over the one at an address; `Area` says that it has another.

@@ -151,6 +151,36 @@ pub const VERBS: &[Verb] = &[
         ],
     },
     Verb {
+        name: "copy",
+        about: "Checks a volume, and copies it",
+        words: &[
+            DBD,
+            VOLUME,
+            Word {
+                name: "OUT",
+                help: "The copy, made where there is none; a file that stands keeps what it has until the whole copy is written",
+                kind: Kind::Needed,
+            },
+            CACHE,
+            NO_SYNC,
+        ],
+    },
+    Verb {
+        name: "salvage",
+        about: "Writes an unload stream of what a volume still holds that does not pass a check, and says what is left out",
+        words: &[
+            DBD,
+            VOLUME,
+            Word {
+                name: "OUT",
+                help: "The unload stream, made where there is none; a file that stands keeps what it has until the whole stream is written",
+                kind: Kind::Needed,
+            },
+            CACHE,
+            NO_SYNC,
+        ],
+    },
+    Verb {
         name: "reload",
         about: "Makes a volume of an unload stream",
         words: &[

@@ -46,6 +46,22 @@ pub enum Request<'a> {
         cache: Option<u32>,
         syncs: bool,
     },
+    /// A copy of a volume that passes.
+    Copy {
+        dbd: &'a str,
+        volume: &'a str,
+        out: &'a str,
+        cache: Option<u32>,
+        syncs: bool,
+    },
+    /// An unload stream of what a volume still holds.
+    Salvage {
+        dbd: &'a str,
+        volume: &'a str,
+        out: &'a str,
+        cache: Option<u32>,
+        syncs: bool,
+    },
     /// A volume of an unload stream, of at most so many blocks.
     Reload {
         dbd: &'a str,
@@ -107,6 +123,12 @@ impl<'a> Request<'a> {
             (Request::Unload { dbd, .. }, Named::Dbd) => dbd,
             (Request::Unload { volume, .. }, Named::Volume) => volume,
             (Request::Unload { out, .. }, Named::Out) => out,
+            (Request::Copy { dbd, .. }, Named::Dbd) => dbd,
+            (Request::Copy { volume, .. }, Named::Volume) => volume,
+            (Request::Copy { out, .. }, Named::Out) => out,
+            (Request::Salvage { dbd, .. }, Named::Dbd) => dbd,
+            (Request::Salvage { volume, .. }, Named::Volume) => volume,
+            (Request::Salvage { out, .. }, Named::Out) => out,
             (Request::Reload { dbd, .. }, Named::Dbd) => dbd,
             (Request::Reload { volume, .. }, Named::Volume) => volume,
             (Request::Reload { input, .. }, Named::Stream) => input,
@@ -239,6 +261,24 @@ fn request_of<'a>(matches: &ArgMatches<'a>) -> Request<'a> {
     }
     if name == "unload" {
         return Request::Unload {
+            dbd,
+            volume,
+            out: given.get_str("OUT").unwrap_or(""),
+            cache,
+            syncs,
+        };
+    }
+    if name == "copy" {
+        return Request::Copy {
+            dbd,
+            volume,
+            out: given.get_str("OUT").unwrap_or(""),
+            cache,
+            syncs,
+        };
+    }
+    if name == "salvage" {
+        return Request::Salvage {
             dbd,
             volume,
             out: given.get_str("OUT").unwrap_or(""),

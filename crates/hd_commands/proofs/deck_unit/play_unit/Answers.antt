@@ -1,5 +1,4 @@
-use Rattle.std.proofs.Common.{inl, ap, ◌∙◌, refl}
-use Rattle.hd_stores.specs.Stores.{Committed}
+use Rattle.std.proofs.Common.{inl, refl}
 use Rattle.hd_commands.proofs.UnitSaying.{unit-commits, accesses-on, says-on, plays-on, refused-as, no-fewer, unwritten, fails-on, device-refused, on-ok, if-ok, on-err}
 use Rattle.hd_commands.proofs.deck_unit.play_unit.Goals as goal
 

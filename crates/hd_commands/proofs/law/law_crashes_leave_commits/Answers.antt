@@ -1,5 +1,5 @@
-use Rattle.hd_commands.proofs.Headline.{crash_law}
+use Rattle.hd_commands.proofs.Commits.{crash_law}
 use Rattle.hd_commands.proofs.law.law_crashes_leave_commits.Goals as goal
 
 pub returns : goal.returns
-returns c = crash_law
+returns g c = λ d. crash_law d (g.D.Disk.state c.args.disk.now)

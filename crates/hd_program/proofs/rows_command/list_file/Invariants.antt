@@ -1,4 +1,4 @@
 use Rattle.hd_program.proofs.rows_command.list_file.Given as goal
 
-abbrev pub ghosts-list : goal.ghosts-list
-ghosts-list g a = record { name = a.blank.name; parts = a.blank.parts }
+abbrev pub ghosts-list_blocks : goal.ghosts-list_blocks
+ghosts-list_blocks g a = record { name = a.blank.name; parts = a.blank.parts }

@@ -1,4 +1,4 @@
 use Rattle.hd_program.proofs.sights.see_file.Given as goal
 
-abbrev pub ghosts-see : goal.ghosts-see
-ghosts-see a = record { name = a.blank.name; parts = a.blank.parts }
+abbrev pub ghosts-see_blocks : goal.ghosts-see_blocks
+ghosts-see_blocks a = record { name = a.blank.name; parts = a.blank.parts }

@@ -1,6 +1,6 @@
 use Rattle.std.proofs.Common.{◌≡◌, map, refl, subst}
 use Rattle.hd_session.specs.Turns.{Turn}
-use Rattle.hd_serve.specs.Requests.{ask}
+use Rattle.hd_session.specs.Requests.{ask}
 use Rattle.hd_serve.specs.Serves.{IsServed}
 use Rattle.hd_serve.proofs.answered_calls.answer_framed.Goals as goal
 

@@ -1,6 +1,7 @@
 use Rattle.std.proofs.Common.{◌≡◌, IsTrue, ℕ, List, Option, refl, sym, ap, ◌∙◌, arith}
 use Rattle.hd_session.specs.Opening.{SessionState}
-use Rattle.hd_serve.proofs.OneRequest.{IsCommitted, serves_commit, does_commit}
+use Rattle.hd_session.proofs.Requests.{IsCommitted}
+use Rattle.hd_serve.proofs.OneRequest.{serves_commit, does_commit}
 use Rattle.hd_serve.proofs.commits.answer_commit.Goals as goal
 
 pub returns-in-Ok-clause-served : goal.returns-in-Ok-clause-served

@@ -7,7 +7,7 @@ use Rattle.hd_serve.specs.declared.desk.Next.{Next}
 use Rattle.hd_serve.specs.declared.desk.Stop.{Stop}
 use Rattle.hd_serve.specs.declared.request.FramedRequest.TheVariants as asks
 use Rattle.hd_serve.specs.Frames.{IsRequestRead}
-use Rattle.hd_serve.specs.Requests.{ask}
+use Rattle.hd_session.specs.Requests.{ask}
 use Rattle.hd_serve.specs.Serves.{StopsNext}
 use Rattle.hd_serve.proofs.Nexts.{stops_next}
 use Rattle.hd_serve.proofs.desk.serve_next.Goals as goal

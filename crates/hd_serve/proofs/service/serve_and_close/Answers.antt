@@ -1,6 +1,6 @@
 use Rattle.std.proofs.Common.{List, ℕ, Option}
 use Rattle.std.specs.Io.KnownBytes.{prepend_known}
-use Rattle.hd_serve.specs.Serves.{Stored}
+use Rattle.hd_deck.specs.Commits.{Stored}
 use Rattle.hd_serve.proofs.Closing.{served_out, left_at, any_broken, on_ok}
 use Rattle.hd_serve.proofs.service.serve_and_close.Goals as goal
 

@@ -7,8 +7,9 @@ use Rattle.hd_session.specs.Opening.{SessionState}
 use Rattle.hd_serve.proofs.Refused.{fault_of_bytes, left_by_opening}
 use Rattle.hd_serve.specs.declared.call.Limits.{Limits}
 use Rattle.hd_serve.specs.declared.service.ServeFault.{ServeFault}
-use Rattle.hd_serve.specs.Serves.{Stored, IsServeFaultOf, IsServedOut, LeavesAt}
-use Rattle.hd_serve.proofs.Opened.{IsOpenedWith, whole_service, fault_at}
+use Rattle.hd_deck.specs.Commits.{Stored, IsOpenedOn}
+use Rattle.hd_serve.specs.Serves.{IsServeFaultOf, IsServedOut, LeavesAt}
+use Rattle.hd_serve.proofs.Opened.{whole_service, fault_at}
 use Rattle.hd_serve.proofs.service.serve_session.Goals as goal
 
 pub returns-in-Err-open-clause-fault : goal.returns-in-Err-open-clause-fault
@@ -38,13 +39,14 @@ returns-in-Ok-serve_and_close-clause-served g c =
     let new : Option (List ℕ) = g.W.Write.contents c.serve_and_close.new.out in
     let end = c.in-Ok-serve_and_close.end in
     let left : Stored = record { bytes = g.S.BlockStore.contents c.in-Ok-serve_and_close.end.store; committed = g.S.BlockStore.committed c.in-Ok-serve_and_close.end.store } in
-    let given : IsTrue (g.S.BlockStore.is_sound c.args.store) → IsOpenedWith d pcbs store v s = λ sound. (
+    let given : IsTrue (g.S.BlockStore.is_sound c.args.store) → IsOpenedOn d pcbs store s = λ sound. (
     let loaded = c.in-Ok.ensures.image sound in
     let kept = c.in-Ok.ensures.store in
     let read = c.in-Ok-open.ensures.read in
     let whole : IsTrue v.is_sound = rw kept.0 sound in
     let then : IsTrue s.volume.is_sound = rw read.call.sound whole in
     record {
+      loaded = v;
       image = loaded.0;
       size = kept.3 ∙ c.requires.size;
       sizes = kept.4;
@@ -55,7 +57,7 @@ returns-in-Ok-serve_and_close-clause-served g c =
       over = c.in-Ok-open.ensures.stands whole;
     }
     ) in
-    whole_service d pcbs (g.S.BlockStore.is_sound c.args.store) store v s given input c.args.first.now old new left end.ending after end.calls end.memory
+    whole_service d pcbs (g.S.BlockStore.is_sound c.args.store) store s given input c.args.first.now old new left end.ending after end.calls end.memory
     (subst (λ (limits : Limits). IsServedOut limits s end.ending input after c.args.first.now old new end.calls end.memory left) c.requires.limits c.in-Ok-serve_and_close.ensures.serves)
 
 pub returns-in-Err-serve_and_close-clause-fault : goal.returns-in-Err-serve_and_close-clause-fault
@@ -69,13 +71,14 @@ returns-in-Err-serve_and_close-clause-fault g c =
     let old : Option (List ℕ) = g.W.Write.contents c.args.out.now in
     let new : Option (List ℕ) = g.W.Write.contents c.serve_and_close.new.out in
     let left : Stored = record { bytes = g.S.BlockStore.contents c.in-Err-serve_and_close.store; committed = g.S.BlockStore.committed c.in-Err-serve_and_close.store } in
-    let given : IsTrue (g.S.BlockStore.is_sound c.args.store) → IsOpenedWith d pcbs store v s = λ sound. (
+    let given : IsTrue (g.S.BlockStore.is_sound c.args.store) → IsOpenedOn d pcbs store s = λ sound. (
     let loaded = c.in-Ok.ensures.image sound in
     let kept = c.in-Ok.ensures.store in
     let read = c.in-Ok-open.ensures.read in
     let whole : IsTrue v.is_sound = rw kept.0 sound in
     let then : IsTrue s.volume.is_sound = rw read.call.sound whole in
     record {
+      loaded = v;
       image = loaded.0;
       size = kept.3 ∙ c.requires.size;
       sizes = kept.4;
@@ -87,5 +90,5 @@ returns-in-Err-serve_and_close-clause-fault g c =
     }
     ) in
     subst (λ (fault : ServeFault). IsServeFaultOf d pcbs (g.S.BlockStore.is_sound c.args.store) store input c.args.first.now old new left fault) (sym c.fault_of.ensures)
-    (fault_at d pcbs (g.S.BlockStore.is_sound c.args.store) store v s given input c.args.first.now old new left c.in-Err-serve_and_close.stop
+    (fault_at d pcbs (g.S.BlockStore.is_sound c.args.store) store s given input c.args.first.now old new left c.in-Err-serve_and_close.stop
     (subst (λ (limits : Limits). LeavesAt limits s input c.args.first.now old new c.in-Err-serve_and_close.stop left) c.requires.limits c.in-Err-serve_and_close.ensures.leaves))

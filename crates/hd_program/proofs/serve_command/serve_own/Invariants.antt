@@ -1,0 +1,4 @@
+use Rattle.hd_program.proofs.serve_command.serve_own.Given as goal
+
+abbrev pub ghosts-serve_over : goal.ghosts-serve_over
+ghosts-serve_over g a = record { name = a.blank.name; parts = a.blank.parts }

@@ -1,0 +1,21 @@
+//! What a refused volume still holds, as an unload stream.
+#![tactic(auto)]
+
+mod copies;
+mod fault;
+mod found;
+mod lost;
+mod note;
+mod path;
+mod record;
+mod roots;
+mod salvages;
+mod scan;
+mod stream;
+mod walk;
+
+pub use copies::copy_volume;
+pub use fault::SalvageFault;
+pub use lost::Lost;
+pub use record::Record;
+pub use salvages::{Salvaged, salvage};

@@ -1,0 +1,4 @@
+use Rattle.hd_volume_tests.proofs.disks.play_once.Given as goal
+
+abbrev pub ghosts-play : goal.ghosts-play
+ghosts-play a = record { name = a.blank.name; parts = a.blank.parts }
