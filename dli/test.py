@@ -285,7 +285,9 @@ def killed(place, language, times, start):
             os.kill(int(servers[0]), signal.SIGKILL)
         else:
             program.send_signal(signal.SIGINT if turn % 3 == 2 else signal.SIGKILL)
-        said, _ = program.communicate(timeout=60)
+        # what readline has read ahead is in the stream's own buffer, which communicate passes over
+        said = program.stdout.read()
+        program.wait(timeout=60)
         told = max([told] + [int(line[:6]) for line in said.splitlines() if line[:6].isdigit()])
         there = parts_in(place)
         expect(f"{language}, killed: {told} were told, {len(there)} are there", there in (numbers(told), numbers(told + 10)), said)
