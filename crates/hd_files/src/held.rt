@@ -12,6 +12,11 @@ impl<W: Write> Held<W> {
         Held { inner }
     }
 
+    /// The writer behind.
+    pub fn inner(&self) -> &W {
+        &self.inner
+    }
+
     /// Lets go out what is gathered.
     pub fn release(&mut self) -> io::Result<()> {
         self.inner.flush()

@@ -63,12 +63,15 @@ where
     };
     let mut out = Watched::over(Unmixed::output(out, progress));
     let mut err = Unmixed::errors(err, progress);
-    let performed = perform(rt, request, progress, input, &mut out, &mut err);
+    let (performed, committed) = perform(rt, request, progress, input, &mut out, &mut err);
     progress.end();
     let status = match &performed {
         Ok(ended) => ended.status,
         Err(stop) => stopped(stop, &mut err),
     };
+    if let Some(calls) = committed {
+        let _ = writeln!(err, "committed: at least the first {calls} calls");
+    }
     if says_more {
         say_more(rt, performed, out.last_error(), &request, &mut err);
     }
@@ -129,7 +132,7 @@ where
     }
 }
 
-/// Does what is asked for, with these streams, and says how it ended.
+/// Does what is asked for, with these streams, and says how it ended, and behind how many calls at least there was a commit, if that is to be told.
 fn perform<'c, R, P, I, O, E>(
     rt: &'c R,
     request: Request<'_>,
@@ -137,7 +140,7 @@ fn perform<'c, R, P, I, O, E>(
     input: &mut I,
     out: &'c mut O,
     err: &'c mut E,
-) -> Result<Ended, Stop>
+) -> (Result<Ended, Stop>, Option<u64>)
 where
     R: Files<File = File> + AllocGlobal,
     P: Progress,
@@ -151,8 +154,10 @@ where
         progress,
         out,
         err,
+        committed: None,
     };
-    command(&mut console, request, input)
+    let ended = command(&mut console, request, input);
+    (ended, console.committed)
 }
 
 /// The command that is asked for.
@@ -176,9 +181,10 @@ where
             psb,
             volume,
             deck,
+            every,
             cache,
             syncs,
-        } => play_file(console, dbd, psb, volume, deck, cache, syncs),
+        } => play_file(console, dbd, psb, volume, deck, every, cache, syncs),
         Request::Serve {
             dbd,
             psb,

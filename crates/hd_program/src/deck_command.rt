@@ -164,12 +164,13 @@ fn held_lines<'p, O: Write, P: Progress>(
     Ok((Held::over(lines), said))
 }
 
-/// What came of a deck that was played over a volume and its log: how it ended and what is said of that, whether the last lines of its calls went out, and
-/// whether all commits are in the volume.
+/// What came of a deck that was played over a volume and its log: how it ended and what is said of that, how many of its calls have a line, whether the last
+/// lines went out, and whether all commits are in the volume.
 #[derive(Drop)]
 struct Played {
     ended: Ended,
     said: Vec<u8>,
+    answered: u64,
     released: io::Result<()>,
     settled: Result<(), ()>,
 }
@@ -181,12 +182,26 @@ enum Unplayed {
     Memory,
 }
 
-/// Plays a deck as one unit over a store, through a cache of so many blocks. What its calls changed is then committed.
+/// Behind how many calls of a deck at least there was a commit, where so many have a line, and there is one behind every so many: a call has its line before
+/// its commit, and that is done before the next call.
+fn committed_calls(every: Option<u32>, answered: u64) -> Option<u64> {
+    match every {
+        Some(every) if every > 0 => {
+            let before = answered.saturating_sub(1);
+            Some(before - before % u64::from(every))
+        }
+        _ => None,
+    }
+}
+
+/// Plays a deck over a store, through a cache of so many blocks, as one unit, or with a commit behind every so many calls. What its calls changed is then
+/// committed.
 fn play_store<D: Disk, L: Ledger, P: Progress, O: Write>(
     alloc: Global,
     dbd: &Dbd,
     psb: &Psb,
     steps: &[Step],
+    every: Option<u32>,
     store: Journaled<D, L>,
     cache: u32,
     progress: &P,
@@ -199,20 +214,23 @@ fn play_store<D: Disk, L: Ledger, P: Progress, O: Write>(
     requires count { length steps.now ≤ 2 ^ 30 }
 {
     let cache = cache.clamp(1, 65_536) as usize;
-    let (store, played) = play_unit(alloc, dbd, psb, steps, store, cache, progress, out, said);
+    let (store, played) = play_unit(
+        alloc, dbd, psb, steps, every, store, cache, progress, out, said,
+    );
     (store, end_of(played))
 }
 
-/// Plays a deck as one unit over a store. Only when what its calls changed is committed the last of its lines go out.
+/// Plays a deck over a store, as one unit or with commits on its way. Only when what its calls changed is committed the last of its lines go out.
 fn play_held<D: Disk, L: Ledger, P: Progress, O: Write>(
     alloc: Global,
     dbd: &Dbd,
     psb: &Psb,
     steps: &[Step],
+    every: Option<u32>,
     store: Journaled<D, L>,
     cache: u32,
     progress: &P,
-    lines: &mut Held<O>,
+    lines: &mut Held<Answers<'_, O, P>>,
     said: Vec<u8>,
 ) -> (D, Played)
     requires size { store.size ≡ dbd.now.block_size }
@@ -222,25 +240,28 @@ fn play_held<D: Disk, L: Ledger, P: Progress, O: Write>(
 {
     let mut said = said;
     let (store, ended) = play_store(
-        alloc, dbd, psb, steps, store, cache, progress, lines, &mut said,
+        alloc, dbd, psb, steps, every, store, cache, progress, lines, &mut said,
     );
+    let answered = lines.inner().answered();
     let released = lines.release();
     let (disk, settled) = close_store(store);
     let played = Played {
         ended,
         said,
+        answered,
         released,
         settled,
     };
     (disk, played)
 }
 
-/// Plays a deck as one unit over a volume and its log, in which a program left this, with a ledger for the accesses that fail.
+/// Plays a deck over a volume and its log, in which a program left this, as one unit or with commits on its way, with a ledger for the accesses that fail.
 fn play_disk<D: Disk, L: Ledger, P: Progress, O: Write, E: Write>(
     alloc: Global,
     dbd: &Dbd,
     psb: &Psb,
     steps: &[Step],
+    every: Option<u32>,
     disk: D,
     left: Left,
     cache: u32,
@@ -265,7 +286,7 @@ fn play_disk<D: Disk, L: Ledger, P: Progress, O: Write, E: Write>(
         return (store.into_disk(), Err(Unplayed::Memory));
     };
     let (disk, played) = play_held(
-        alloc, dbd, psb, steps, store, cache, progress, &mut lines, said,
+        alloc, dbd, psb, steps, every, store, cache, progress, &mut lines, said,
     );
     (disk, Ok(played))
 }
@@ -288,13 +309,31 @@ fn ended_with<E: Write>(
     Ok(played.ended)
 }
 
-/// Plays a deck as one unit over the files of a volume, in whose log a program left this, with a ledger for the accesses that fail. What its calls changed is
-/// then committed, on the disk if that is wanted; only then the last lines of its calls go out.
+/// How a deck ended that was played over files, and behind how many calls at least there was a commit, where it did not end well and that is to be told.
+#[derive(Drop)]
+struct Unit {
+    ended: Result<Ended, Stop>,
+    committed: Option<u64>,
+}
+
+impl Unit {
+    /// A deck of which no call was made.
+    fn not_played(stop: Stop) -> Unit {
+        Unit {
+            ended: Err(stop),
+            committed: None,
+        }
+    }
+}
+
+/// Plays a deck over the files of a volume, in whose log a program left this, as one unit or with commits on its way, with a ledger for the accesses that
+/// fail. What its calls changed is then committed, on the disk if that is wanted; only then the last lines of its calls go out.
 fn play_over<L: Ledger, R: Files<File = File>, P: Progress, O: Write, E: Write>(
     alloc: Global,
     dbd: &Dbd,
     psb: &Psb,
     steps: &[Step],
+    every: Option<u32>,
     files: VolumeFiles<'_, R>,
     left: Left,
     cache: u32,
@@ -302,7 +341,7 @@ fn play_over<L: Ledger, R: Files<File = File>, P: Progress, O: Write, E: Write>(
     progress: &P,
     out: &mut O,
     err: &mut E,
-) -> Result<Ended, Stop>
+) -> Unit
     requires name { blank.name ≡ L.name }
     requires parts { blank.parts ≡ L.parts }
     requires share { 0 < blank.parts }
@@ -311,15 +350,20 @@ fn play_over<L: Ledger, R: Files<File = File>, P: Progress, O: Write, E: Write>(
     requires count { length steps.now ≤ 2 ^ 30 }
 {
     let (files, played) = play_disk::<VolumeFiles<'_, R>, L, P, O, E>(
-        alloc, dbd, psb, steps, files, left, cache, blank, progress, out, err,
+        alloc, dbd, psb, steps, every, files, left, cache, blank, progress, out, err,
     );
     match played {
         Ok(played) => {
             let error = close_files(files, played.settled);
-            ended_with(played, error, err)
+            let committed = match played.ended.status {
+                DEVICE_FAILED => committed_calls(every, played.answered),
+                _ => None,
+            };
+            let ended = ended_with(played, error, err);
+            Unit { ended, committed }
         }
-        Err(Unplayed::Unopened(unopened)) => Err(not_opened(files, unopened)),
-        Err(Unplayed::Memory) => Err(Stop::from(Refusal::Memory)),
+        Err(Unplayed::Unopened(unopened)) => Unit::not_played(not_opened(files, unopened)),
+        Err(Unplayed::Memory) => Unit::not_played(Stop::from(Refusal::Memory)),
     }
 }
 
@@ -329,24 +373,25 @@ fn play_own<R: Files<File = File>, P: Progress, O: Write, E: Write>(
     dbd: &Dbd,
     psb: &Psb,
     steps: &[Step],
+    every: Option<u32>,
     files: VolumeFiles<'_, R>,
     left: Left,
     cache: u32,
     progress: &P,
     out: &mut O,
     err: &mut E,
-) -> Result<Ended, Stop>
+) -> Unit
     requires matches { psb.now.made_for ≡ type_names dbd.now.types }
     requires steps { All (StepFits (length psb.now.pcbs)) steps.now }
     requires count { length steps.now ≤ 2 ^ 30 }
 {
     let blank = Blank::new(1);
     play_over::<Brand, R, P, O, E>(
-        alloc, dbd, psb, steps, files, left, cache, blank, progress, out, err,
+        alloc, dbd, psb, steps, every, files, left, cache, blank, progress, out, err,
     )
 }
 
-/// Plays the deck in a file over the volume in another, as one unit. The DBD, the PSB and the deck are read and judged first,
+/// Plays the deck in a file over the volume in another, as one unit, or with a commit behind every so many calls. The DBD, the PSB and the deck are read and judged first,
 /// in this order, then the volume is opened; only then is it judged. Says how it ended.
 pub fn play_file<R, P, O, E>(
     console: &mut Console<'_, R, P, O, E>,
@@ -354,6 +399,7 @@ pub fn play_file<R, P, O, E>(
     psb: &str,
     volume: &str,
     deck: &str,
+    every: Option<u32>,
     cache: Option<u32>,
     syncs: bool,
 ) -> Result<Ended, Stop>
@@ -370,16 +416,19 @@ where
     let volume = open_volume(rt, volume, &[source, program, text])?;
     let cache = cache.unwrap_or(blocks_for_calls(&dbd));
     let (files, left) = open_files(alloc, volume, syncs)?;
-    play_own(
+    let played = play_own(
         alloc,
         &dbd,
         &psb,
         &steps,
+        every,
         files,
         left,
         cache,
         console.progress,
         &mut *console.out,
         &mut *console.err,
-    )
+    );
+    console.committed = played.committed;
+    played.ended
 }

@@ -30,6 +30,8 @@ pub enum Kind {
     Behind(&'static str, &'static str, Option<&'static str>),
     /// A number of blocks behind an option, under the name that the help has for it.
     BlocksBehind(&'static str, &'static str),
+    /// A number of calls behind an option, under the name that the help has for it.
+    CallsBehind(&'static str, &'static str),
     /// An option that stands alone.
     Flag(&'static str),
 }
@@ -39,6 +41,9 @@ pub const LEAST_BLOCKS: i64 = 1;
 
 /// The greatest number of blocks that a word may say.
 pub const MOST_BLOCKS: i64 = 65_536;
+
+/// The greatest number of calls that a word may say.
+pub const MOST_CALLS: i64 = 1_000_000_000;
 
 /// The file with the DBD source that every command over a database reads.
 const DBD: Word = Word {
@@ -75,6 +80,13 @@ const CACHE: Word = Word {
     kind: Kind::BlocksBehind("cache", "BLOCKS"),
 };
 
+/// Behind how many calls of a deck there is a commit.
+const COMMIT: Word = Word {
+    name: "COMMIT",
+    help: "Commit behind every so many calls too, 1 to 1000000000; if it is not given the deck is one unit",
+    kind: Kind::CallsBehind("commit", "CALLS"),
+};
+
 /// That a command ends before what it wrote is on the disk.
 const NO_SYNC: Word = Word {
     name: "NOSYNC",
@@ -103,6 +115,7 @@ pub const VERBS: &[Verb] = &[
                 help: "The file with the calls",
                 kind: Kind::Needed,
             },
+            COMMIT,
             CACHE,
             NO_SYNC,
         ],

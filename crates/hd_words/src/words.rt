@@ -1,4 +1,4 @@
-use crate::verbs::{Kind, LEAST_BLOCKS, MOST_BLOCKS, VERBS, Verb, Word};
+use crate::verbs::{Kind, LEAST_BLOCKS, MOST_BLOCKS, MOST_CALLS, VERBS, Verb, Word};
 use clap::{Arg, ArgAction, ArgMatches, Command, Error, value_parser};
 use hd_files::Named;
 use std::alloc::Global;
@@ -9,12 +9,13 @@ use std::alloc::Global;
 pub enum Request<'a> {
     /// A deck over the sample.
     Sample,
-    /// A deck over a volume, by a program.
+    /// A deck over a volume, by a program, with a commit behind every so many calls where that is wanted.
     Deck {
         dbd: &'a str,
         psb: &'a str,
         volume: &'a str,
         deck: &'a str,
+        every: Option<u32>,
         cache: Option<u32>,
         syncs: bool,
     },
@@ -234,6 +235,7 @@ fn request_of<'a>(matches: &ArgMatches<'a>) -> Request<'a> {
             psb: given.get_str("PSB").unwrap_or(""),
             volume,
             deck: given.get_str("DECK").unwrap_or(""),
+            every: given.get_one::<u32>("COMMIT"),
             cache,
             syncs,
         };
@@ -317,6 +319,7 @@ fn arg_of<'a>(alloc: Global, word: &Word) -> Result<Arg<'a>, Error> {
             Ok(arg.long(long).value_name(shown).requires_arg(other)?)
         }
         Kind::BlocksBehind(long, shown) => Ok(blocks(arg.long(long).value_name(shown))),
+        Kind::CallsBehind(long, shown) => Ok(calls(arg.long(long).value_name(shown))),
         Kind::Flag(long) => Ok(arg.long(long).action(ArgAction::SetTrue)),
     }
 }
@@ -324,6 +327,11 @@ fn arg_of<'a>(alloc: Global, word: &Word) -> Result<Arg<'a>, Error> {
 /// A word that is a number of blocks.
 fn blocks(arg: Arg<'_>) -> Arg<'_> {
     arg.value_parser(value_parser!(u32).range(LEAST_BLOCKS..=MOST_BLOCKS))
+}
+
+/// A word that is a number of calls.
+fn calls(arg: Arg<'_>) -> Arg<'_> {
+    arg.value_parser(value_parser!(u32).range(1..=MOST_CALLS))
 }
 
 /// The option that says when more is said of a stop.
