@@ -12,14 +12,14 @@ impl<W: Write> Held<W> {
         Held { inner }
     }
 
-    /// The writer behind.
-    pub fn inner(&self) -> &W {
-        &self.inner
-    }
-
     /// Lets go out what is gathered.
     pub fn release(&mut self) -> io::Result<()> {
         self.inner.flush()
+    }
+
+    /// The writer behind.
+    pub fn into_inner(self) -> W {
+        self.inner
     }
 }
 

@@ -49,6 +49,16 @@ pub fn advise_stop<E: Write>(alloc: Global, stop: &Stop, request: &Request<'_>, 
     }
 }
 
+/// Writes the line that says how many calls of a deck were answered Full, if any were.
+pub fn advise_full<E: Write>(calls: u64, err: &mut E) {
+    if calls > 0 {
+        let _ = writeln!(
+            err,
+            "calls answered Full: {calls}; the volume has no room for their rows: unload it, and reload it with more BLOCKS"
+        );
+    }
+}
+
 /// Writes the line that says what the word of a refusal means, and what is seen where it tells of a file.
 pub fn advise_refusal<E: Write>(
     alloc: Global,

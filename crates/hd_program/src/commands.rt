@@ -1,6 +1,6 @@
-use crate::advice::{advise_refusal, advise_stop};
+use crate::advice::{advise_full, advise_refusal, advise_stop};
 use crate::check_command::check_file;
-use crate::console::Console;
+use crate::console::{Console, Further, NOTHING_FURTHER};
 use crate::copy_command::copy_file;
 use crate::deck_command::{play_file, play_sample};
 use crate::explain_command::explain_word;
@@ -63,16 +63,17 @@ where
     };
     let mut out = Watched::over(Unmixed::output(out, progress));
     let mut err = Unmixed::errors(err, progress);
-    let (performed, committed) = perform(rt, request, progress, input, &mut out, &mut err);
+    let (performed, further) = perform(rt, request, progress, input, &mut out, &mut err);
     progress.end();
     let status = match &performed {
         Ok(ended) => ended.status,
         Err(stop) => stopped(stop, &mut err),
     };
-    if let Some(calls) = committed {
+    if let Some(calls) = further.committed {
         let _ = writeln!(err, "committed: at least the first {calls} calls");
     }
     if says_more {
+        advise_full(further.full, &mut err);
         say_more(rt, performed, out.last_error(), &request, &mut err);
     }
     status
@@ -132,7 +133,7 @@ where
     }
 }
 
-/// Does what is asked for, with these streams, and says how it ended, and behind how many calls at least there was a commit, if that is to be told.
+/// Does what is asked for, with these streams, and says how it ended, and what is to be said behind that.
 fn perform<'c, R, P, I, O, E>(
     rt: &'c R,
     request: Request<'_>,
@@ -140,7 +141,7 @@ fn perform<'c, R, P, I, O, E>(
     input: &mut I,
     out: &'c mut O,
     err: &'c mut E,
-) -> (Result<Ended, Stop>, Option<u64>)
+) -> (Result<Ended, Stop>, Further)
 where
     R: Files<File = File> + AllocGlobal,
     P: Progress,
@@ -154,10 +155,10 @@ where
         progress,
         out,
         err,
-        committed: None,
+        further: NOTHING_FURTHER,
     };
     let ended = command(&mut console, request, input);
-    (ended, console.committed)
+    (ended, console.further)
 }
 
 /// The command that is asked for.
@@ -182,9 +183,12 @@ where
             volume,
             deck,
             every,
+            compares,
             cache,
             syncs,
-        } => play_file(console, dbd, psb, volume, deck, every, cache, syncs),
+        } => play_file(
+            console, dbd, psb, volume, deck, every, compares, cache, syncs,
+        ),
         Request::Serve {
             dbd,
             psb,

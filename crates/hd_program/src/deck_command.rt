@@ -2,9 +2,10 @@ ghost use Rattle.std.specs.Prelude.{◌≡◌, ◌<◌, ◌≤◌, ◌^◌, leng
 ghost use Rattle.hd_dbd.specs.ProgramRules.{type_names};
 ghost use Rattle.hd_deck.specs.StepText.{StepFits};
 
-use crate::console::Console;
+use crate::compared::{Compared, Expectations};
+use crate::console::{Console, Further, NOTHING_FURTHER};
 use crate::dbd_source::{blocks_for_calls, read_database};
-use crate::lines::{DEVICE_FAILED, LINE};
+use crate::lines::{DEVICE_FAILED, DIFFERS, LINE};
 use crate::sample;
 use crate::stop::Stop;
 use crate::volume_store::{
@@ -134,43 +135,64 @@ pub fn read_program<R: Files<File = File>>(
     }
 }
 
-/// The steps that a file of a deck has, for a program of so many PCBs.
+/// What a deck expects of its calls, if that is to be compared.
+fn read_expectations(
+    alloc: Global,
+    text: &[u8],
+    steps: &[Step],
+    compares: bool,
+) -> Result<Expectations, Stop> {
+    if compares {
+        Expectations::read(alloc, text, steps)
+    } else {
+        Ok(Expectations::none(alloc))
+    }
+}
+
+/// The steps that a file of a deck has, for a program of so many PCBs, and what it expects of their calls, if that is to be compared.
 fn read_steps<R: Files<File = File>>(
     rt: &R,
     alloc: Global,
     pcbs: u8,
     name: &str,
-) -> Result<(Vec<Step>, Identity), Stop>
+    compares: bool,
+) -> Result<(Vec<Step>, Expectations, Identity), Stop>
     requires { 0 < pcbs }
     ensures fit { IfOk result (λ s. All (StepFits pcbs) s.0.items) }
     ensures few { IfOk result (λ s. length s.0.items ≤ 2 ^ 30) }
 {
     let (text, identity) = read_file(rt, alloc, name, Named::Deck)?;
     match read_deck(alloc, &text, pcbs) {
-        Ok(steps) => Ok((steps, identity)),
+        Ok(steps) => {
+            let expectations = read_expectations(alloc, &text, &steps, compares)?;
+            Ok((steps, expectations, identity))
+        }
         Err(fault) => Err(Stop::deck(fault, text, Named::Deck)),
     }
 }
 
-/// The lines of a deck's calls, whose last go out when they are let go, and room for what is said at the end.
+/// The lines of a deck's calls, whose last go out when they are let go, and which are compared with what is expected; and room for what is said at the end.
 fn held_lines<'p, O: Write, P: Progress>(
     alloc: Global,
     out: &'p mut O,
     steps: &[Step],
+    expectations: Expectations,
     progress: &'p P,
-) -> Result<(Held<Answers<'p, Pieces<&'p mut O>, P>>, Vec<u8>), Stop> {
+) -> Result<(Held<Compared<Answers<'p, Pieces<&'p mut O>, P>>>, Vec<u8>), Stop> {
     let lines = lines_into(alloc, out, steps, progress)?;
     let said = Vec::with_capacity(alloc, LINE)?;
-    Ok((Held::over(lines), said))
+    Ok((Held::over(Compared::over(lines, expectations)), said))
 }
 
-/// What came of a deck that was played over a volume and its log: how it ended and what is said of that, how many of its calls have a line, whether the last
-/// lines went out, and whether all commits are in the volume.
+/// What came of a deck that was played over a volume and its log: how it ended and what is said of that, how many of its calls have a line and how many were
+/// answered Full, what it expects, whether the last lines went out, and whether all commits are in the volume.
 #[derive(Drop)]
 struct Played {
     ended: Ended,
     said: Vec<u8>,
     answered: u64,
+    full: u64,
+    expectations: Expectations,
     released: io::Result<()>,
     settled: Result<(), ()>,
 }
@@ -230,7 +252,7 @@ fn play_held<D: Disk, L: Ledger, P: Progress, O: Write>(
     store: Journaled<D, L>,
     cache: u32,
     progress: &P,
-    lines: &mut Held<Answers<'_, O, P>>,
+    lines: Held<Compared<Answers<'_, O, P>>>,
     said: Vec<u8>,
 ) -> (D, Played)
     requires size { store.size ≡ dbd.now.block_size }
@@ -238,17 +260,19 @@ fn play_held<D: Disk, L: Ledger, P: Progress, O: Write>(
     requires steps { All (StepFits (length psb.now.pcbs)) steps.now }
     requires count { length steps.now ≤ 2 ^ 30 }
 {
-    let mut said = said;
+    let (mut lines, mut said) = (lines, said);
     let (store, ended) = play_store(
-        alloc, dbd, psb, steps, every, store, cache, progress, lines, &mut said,
+        alloc, dbd, psb, steps, every, store, cache, progress, &mut lines, &mut said,
     );
-    let answered = lines.inner().answered();
     let released = lines.release();
     let (disk, settled) = close_store(store);
+    let lines = lines.into_inner();
     let played = Played {
         ended,
         said,
-        answered,
+        answered: lines.inner().answered(),
+        full: lines.full(),
+        expectations: lines.into_expectations(),
         released,
         settled,
     };
@@ -262,6 +286,7 @@ fn play_disk<D: Disk, L: Ledger, P: Progress, O: Write, E: Write>(
     psb: &Psb,
     steps: &[Step],
     every: Option<u32>,
+    expectations: Expectations,
     disk: D,
     left: Left,
     cache: u32,
@@ -282,16 +307,17 @@ fn play_disk<D: Disk, L: Ledger, P: Progress, O: Write, E: Write>(
         Ok(store) => store,
         Err((disk, unopened)) => return (disk, Err(Unplayed::Unopened(unopened))),
     };
-    let Ok((mut lines, said)) = held_lines(alloc, out, steps, progress) else {
+    let Ok((lines, said)) = held_lines(alloc, out, steps, expectations, progress) else {
         return (store.into_disk(), Err(Unplayed::Memory));
     };
     let (disk, played) = play_held(
-        alloc, dbd, psb, steps, every, store, cache, progress, &mut lines, said,
+        alloc, dbd, psb, steps, every, store, cache, progress, lines, said,
     );
     (disk, Ok(played))
 }
 
-/// How a deck ended over files of which the system said this, if it refused an access.
+/// How a deck ended over files of which the system said this, if it refused an access. One that was played, and whose calls were answered something else than it
+/// expects, ends with 1.
 fn ended_with<E: Write>(
     played: Played,
     error: Option<io::Error>,
@@ -306,14 +332,18 @@ fn ended_with<E: Write>(
         }
     }
     let _ = err.write_all(&played.said);
+    let is_played = played.ended.refusal.is_none();
+    if is_played && played.expectations.tell(err) && played.ended.status == 0 {
+        return Ok(Ended::with_status(DIFFERS));
+    }
     Ok(played.ended)
 }
 
-/// How a deck ended that was played over files, and behind how many calls at least there was a commit, where it did not end well and that is to be told.
+/// How a deck ended that was played over files, and what is to be said behind that.
 #[derive(Drop)]
 struct Unit {
     ended: Result<Ended, Stop>,
-    committed: Option<u64>,
+    further: Further,
 }
 
 impl Unit {
@@ -321,8 +351,20 @@ impl Unit {
     fn not_played(stop: Stop) -> Unit {
         Unit {
             ended: Err(stop),
-            committed: None,
+            further: NOTHING_FURTHER,
         }
+    }
+}
+
+/// What is to be said behind the line that says how a deck ended.
+fn further_of(played: &Played, every: Option<u32>) -> Further {
+    let committed = match played.ended.status {
+        DEVICE_FAILED => committed_calls(every, played.answered),
+        _ => None,
+    };
+    Further {
+        committed,
+        full: played.full,
     }
 }
 
@@ -334,6 +376,7 @@ fn play_over<L: Ledger, R: Files<File = File>, P: Progress, O: Write, E: Write>(
     psb: &Psb,
     steps: &[Step],
     every: Option<u32>,
+    expectations: Expectations,
     files: VolumeFiles<'_, R>,
     left: Left,
     cache: u32,
@@ -350,17 +393,26 @@ fn play_over<L: Ledger, R: Files<File = File>, P: Progress, O: Write, E: Write>(
     requires count { length steps.now ≤ 2 ^ 30 }
 {
     let (files, played) = play_disk::<VolumeFiles<'_, R>, L, P, O, E>(
-        alloc, dbd, psb, steps, every, files, left, cache, blank, progress, out, err,
+        alloc,
+        dbd,
+        psb,
+        steps,
+        every,
+        expectations,
+        files,
+        left,
+        cache,
+        blank,
+        progress,
+        out,
+        err,
     );
     match played {
         Ok(played) => {
             let error = close_files(files, played.settled);
-            let committed = match played.ended.status {
-                DEVICE_FAILED => committed_calls(every, played.answered),
-                _ => None,
-            };
+            let further = further_of(&played, every);
             let ended = ended_with(played, error, err);
-            Unit { ended, committed }
+            Unit { ended, further }
         }
         Err(Unplayed::Unopened(unopened)) => Unit::not_played(not_opened(files, unopened)),
         Err(Unplayed::Memory) => Unit::not_played(Stop::from(Refusal::Memory)),
@@ -374,6 +426,7 @@ fn play_own<R: Files<File = File>, P: Progress, O: Write, E: Write>(
     psb: &Psb,
     steps: &[Step],
     every: Option<u32>,
+    expectations: Expectations,
     files: VolumeFiles<'_, R>,
     left: Left,
     cache: u32,
@@ -387,11 +440,24 @@ fn play_own<R: Files<File = File>, P: Progress, O: Write, E: Write>(
 {
     let blank = Blank::new(1);
     play_over::<Brand, R, P, O, E>(
-        alloc, dbd, psb, steps, every, files, left, cache, blank, progress, out, err,
+        alloc,
+        dbd,
+        psb,
+        steps,
+        every,
+        expectations,
+        files,
+        left,
+        cache,
+        blank,
+        progress,
+        out,
+        err,
     )
 }
 
-/// Plays the deck in a file over the volume in another, as one unit, or with a commit behind every so many calls. The DBD, the PSB and the deck are read and judged first,
+/// Plays the deck in a file over the volume in another, as one unit, or with a commit behind every so many calls, and compares what is answered with
+/// what the deck expects, if that is wanted. The DBD, the PSB and the deck are read and judged first,
 /// in this order, then the volume is opened; only then is it judged. Says how it ended.
 pub fn play_file<R, P, O, E>(
     console: &mut Console<'_, R, P, O, E>,
@@ -400,6 +466,7 @@ pub fn play_file<R, P, O, E>(
     volume: &str,
     deck: &str,
     every: Option<u32>,
+    compares: bool,
     cache: Option<u32>,
     syncs: bool,
 ) -> Result<Ended, Stop>
@@ -412,7 +479,8 @@ where
     let (rt, alloc) = (console.rt, console.alloc);
     let (dbd, source) = read_database(rt, alloc, dbd)?;
     let (psb, program) = read_program(rt, alloc, &dbd, psb)?;
-    let (steps, text) = read_steps(rt, alloc, psb.pcbs().len() as u8, deck)?;
+    let pcbs = psb.pcbs().len() as u8;
+    let (steps, expectations, text) = read_steps(rt, alloc, pcbs, deck, compares)?;
     let volume = open_volume(rt, volume, &[source, program, text])?;
     let cache = cache.unwrap_or(blocks_for_calls(&dbd));
     let (files, left) = open_files(alloc, volume, syncs)?;
@@ -422,6 +490,7 @@ where
         &psb,
         &steps,
         every,
+        expectations,
         files,
         left,
         cache,
@@ -429,6 +498,6 @@ where
         &mut *console.out,
         &mut *console.err,
     );
-    console.committed = played.committed;
+    console.further = played.further;
     played.ended
 }

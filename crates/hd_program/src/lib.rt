@@ -5,6 +5,7 @@ mod advice;
 mod beginning;
 mod check_command;
 mod commands;
+mod compared;
 mod console;
 mod copy_command;
 mod dbd_source;

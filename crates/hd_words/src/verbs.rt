@@ -87,6 +87,13 @@ const COMMIT: Word = Word {
     kind: Kind::CallsBehind("commit", "CALLS"),
 };
 
+/// That what a deck expects of its calls is compared.
+const EXPECT: Word = Word {
+    name: "EXPECT",
+    help: "Compare what the calls answer with what the deck expects, as a comment * expect GE behind a call says it",
+    kind: Kind::Flag("expect"),
+};
+
 /// That a command ends before what it wrote is on the disk.
 const NO_SYNC: Word = Word {
     name: "NOSYNC",
@@ -116,6 +123,7 @@ pub const VERBS: &[Verb] = &[
                 kind: Kind::Needed,
             },
             COMMIT,
+            EXPECT,
             CACHE,
             NO_SYNC,
         ],

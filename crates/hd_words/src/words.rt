@@ -9,13 +9,14 @@ use std::alloc::Global;
 pub enum Request<'a> {
     /// A deck over the sample.
     Sample,
-    /// A deck over a volume, by a program, with a commit behind every so many calls where that is wanted.
+    /// A deck over a volume, by a program, with a commit behind every so many calls where that is wanted, and whether what it expects is compared.
     Deck {
         dbd: &'a str,
         psb: &'a str,
         volume: &'a str,
         deck: &'a str,
         every: Option<u32>,
+        compares: bool,
         cache: Option<u32>,
         syncs: bool,
     },
@@ -236,6 +237,7 @@ fn request_of<'a>(matches: &ArgMatches<'a>) -> Request<'a> {
             volume,
             deck: given.get_str("DECK").unwrap_or(""),
             every: given.get_one::<u32>("COMMIT"),
+            compares: given.get_flag("EXPECT"),
             cache,
             syncs,
         };
