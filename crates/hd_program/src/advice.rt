@@ -43,7 +43,8 @@ pub fn advise_stop<E: Write>(alloc: Global, stop: &Stop, request: &Request<'_>, 
             put_file(request, Named::Log, &mut ink);
             ink.put(": another version of hd wrote it, which can copy it into the volume\n");
         }
-        Stop::OverInput | Stop::Words | Stop::NoType | Stop::Table(_, _, _) => {}
+        Stop::OverInput | Stop::OneOutput | Stop::Words | Stop::NoType => {}
+        Stop::Table(_, _, _) => {}
         Stop::Frame(_) | Stop::Fields => {}
         Stop::Refused(refusal) => advise(alloc, *refusal, None, request, &mut ink),
     }

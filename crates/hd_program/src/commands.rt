@@ -222,9 +222,10 @@ where
             dbd,
             volume,
             out: stream,
+            orphans,
             cache,
             syncs,
-        } => salvage_file(console, dbd, volume, stream, cache, syncs),
+        } => salvage_file(console, dbd, volume, stream, orphans, cache, syncs),
         Request::Reload {
             dbd,
             input,

@@ -14,6 +14,7 @@ mod explain_command;
 mod ink;
 mod lines;
 mod operands_command;
+mod orphans;
 mod recover_command;
 mod reload_command;
 mod rows_command;

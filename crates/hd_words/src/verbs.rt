@@ -197,6 +197,11 @@ pub const VERBS: &[Verb] = &[
                 help: "The unload stream, made where there is none; a file that stands keeps what it has until the whole stream is written",
                 kind: Kind::Needed,
             },
+            Word {
+                name: "ORPHANS",
+                help: "Write what is left out into this file, a line a row: its address, and the row as hd rows writes it",
+                kind: Kind::Behind("orphans", "FILE", None),
+            },
             CACHE,
             NO_SYNC,
         ],

@@ -56,11 +56,12 @@ pub enum Request<'a> {
         cache: Option<u32>,
         syncs: bool,
     },
-    /// An unload stream of what a volume still holds.
+    /// An unload stream of what a volume still holds, and the rows that are left out of it, if a file is named for them.
     Salvage {
         dbd: &'a str,
         volume: &'a str,
         out: &'a str,
+        orphans: Option<&'a str>,
         cache: Option<u32>,
         syncs: bool,
     },
@@ -131,6 +132,7 @@ impl<'a> Request<'a> {
             (Request::Salvage { dbd, .. }, Named::Dbd) => dbd,
             (Request::Salvage { volume, .. }, Named::Volume) => volume,
             (Request::Salvage { out, .. }, Named::Out) => out,
+            (Request::Salvage { orphans, .. }, Named::Rows) => orphans.unwrap_or(""),
             (Request::Reload { dbd, .. }, Named::Dbd) => dbd,
             (Request::Reload { volume, .. }, Named::Volume) => volume,
             (Request::Reload { input, .. }, Named::Stream) => input,
@@ -286,6 +288,7 @@ fn request_of<'a>(matches: &ArgMatches<'a>) -> Request<'a> {
             dbd,
             volume,
             out: given.get_str("OUT").unwrap_or(""),
+            orphans: given.get_str("ORPHANS"),
             cache,
             syncs,
         };
