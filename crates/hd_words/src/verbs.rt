@@ -1,7 +1,26 @@
+/// What a command asks for.
+#[derive(Clone, Copy)]
+pub enum Asks {
+    Deck,
+    Serve,
+    Check,
+    Recover,
+    Unload,
+    Copy,
+    Salvage,
+    Reload,
+    Show,
+    Rows,
+    Stream,
+    Operands,
+    Explain,
+}
+
 /// A command that stands behind the program's name.
 #[derive(Clone, Copy)]
 pub struct Verb {
     pub name: &'static str,
+    pub asks: Asks,
     /// What the command does, as the help says it.
     pub about: &'static str,
     /// The words that may follow it, in the order of the help.
@@ -112,6 +131,7 @@ const COMMIT_ON_REQUEST: Word = Word {
 pub const VERBS: &[Verb] = &[
     Verb {
         name: "deck",
+        asks: Asks::Deck,
         about: "Plays a deck of DL/I calls over a volume, which it checks first",
         words: &[
             DBD,
@@ -130,16 +150,19 @@ pub const VERBS: &[Verb] = &[
     },
     Verb {
         name: "serve",
+        asks: Asks::Serve,
         about: "Serves a program's DL/I calls over a volume, which it checks first: they come as frames on standard input",
         words: &[DBD, PSB, CHANGED_VOLUME, COMMIT_ON_REQUEST, CACHE, NO_SYNC],
     },
     Verb {
         name: "check",
+        asks: Asks::Check,
         about: "Says whether a volume is sound, or names its first fault",
         words: &[DBD, VOLUME, CACHE],
     },
     Verb {
         name: "recover",
+        asks: Asks::Recover,
         about: "Copies the commits that stand in a volume's log into the volume, and checks it",
         words: &[
             DBD,
@@ -158,6 +181,7 @@ pub const VERBS: &[Verb] = &[
     },
     Verb {
         name: "unload",
+        asks: Asks::Unload,
         about: "Checks a volume, and writes its unload stream",
         words: &[
             DBD,
@@ -173,6 +197,7 @@ pub const VERBS: &[Verb] = &[
     },
     Verb {
         name: "copy",
+        asks: Asks::Copy,
         about: "Checks a volume, and copies it",
         words: &[
             DBD,
@@ -188,6 +213,7 @@ pub const VERBS: &[Verb] = &[
     },
     Verb {
         name: "salvage",
+        asks: Asks::Salvage,
         about: "Writes an unload stream of what a volume still holds that does not pass a check, and says what is left out",
         words: &[
             DBD,
@@ -208,6 +234,7 @@ pub const VERBS: &[Verb] = &[
     },
     Verb {
         name: "reload",
+        asks: Asks::Reload,
         about: "Makes a volume of an unload stream",
         words: &[
             DBD,
@@ -232,6 +259,7 @@ pub const VERBS: &[Verb] = &[
     },
     Verb {
         name: "show",
+        asks: Asks::Show,
         about: "Draws the hierarchy that a DBD describes; or a volume, which it checks",
         words: &[
             DBD,
@@ -251,6 +279,7 @@ pub const VERBS: &[Verb] = &[
     },
     Verb {
         name: "rows",
+        asks: Asks::Rows,
         about: "Checks a volume, and writes its segments in hierarchic sequence, a line each",
         words: &[
             DBD,
@@ -265,6 +294,7 @@ pub const VERBS: &[Verb] = &[
     },
     Verb {
         name: "stream",
+        asks: Asks::Stream,
         about: "Makes an unload stream, which hd reload takes, of a text of rows as hd rows writes it",
         words: &[
             DBD,
@@ -288,6 +318,7 @@ pub const VERBS: &[Verb] = &[
     },
     Verb {
         name: "operands",
+        asks: Asks::Operands,
         about: "Lists the operands of a DBD or PSB source, one on a line, for scripts",
         words: &[Word {
             name: "SOURCE",
@@ -297,6 +328,7 @@ pub const VERBS: &[Verb] = &[
     },
     Verb {
         name: "explain",
+        asks: Asks::Explain,
         about: "Says what a fault, status or refusal means; without a word it lists them all",
         words: &[Word {
             name: "WORD",
