@@ -128,7 +128,11 @@ const COMMIT_ON_REQUEST: Word = Word {
 };
 
 /// The commands, in the order of the help.
-pub const VERBS: &[Verb] = &[
+pub fn verbs() -> &'static [Verb] {
+    VERBS
+}
+
+const VERBS: &[Verb] = &[
     Verb {
         name: "deck",
         asks: Asks::Deck,

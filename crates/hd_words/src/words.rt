@@ -1,5 +1,5 @@
 use crate::request::Request;
-use crate::verbs::{Asks, Kind, LEAST_BLOCKS, MOST_BLOCKS, MOST_CALLS, VERBS, Verb, Word};
+use crate::verbs::{Asks, Kind, LEAST_BLOCKS, MOST_BLOCKS, MOST_CALLS, Verb, Word, verbs};
 use clap::{Arg, ArgAction, ArgMatches, Command, Error, value_parser};
 use std::alloc::Global;
 
@@ -15,7 +15,7 @@ pub enum Explains {
 /// What the words behind the program's name ask for, and when more is said of a stop; an error is `clap`'s, help among them.
 pub fn read_words(alloc: Global, words: &[String]) -> Result<(Request<'_>, Explains), Error> {
     let mut command = program(alloc)?;
-    for verb in VERBS {
+    for verb in verbs() {
         command = command.subcommand(command_of(alloc, verb)?)?;
     }
     let matches = command.try_get_matches_from(words)?;
@@ -45,7 +45,7 @@ fn request_of<'a>(matches: &ArgMatches<'a>) -> Request<'a> {
     let Some((name, given)) = matches.subcommand() else {
         return Request::Sample;
     };
-    match VERBS.iter().find(|verb| verb.name == name) {
+    match verbs().iter().find(|verb| verb.name == name) {
         Some(verb) => asked_by(verb.asks, given),
         None => Request::Sample,
     }
