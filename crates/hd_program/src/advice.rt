@@ -33,6 +33,10 @@ pub fn advise_stop<E: Write>(alloc: Global, stop: &Stop, request: &Request<'_>, 
             ink.name(request.name_of(*file));
             ink.put(": another program uses it; try again when that one has ended\n");
         }
+        Stop::OneOutput => {
+            ink.name(request.name_of(Named::Rows));
+            ink.put(": OUT is this file too\n");
+        }
         Stop::OtherVolume => {
             put_file(request, Named::Log, &mut ink);
             ink.put(
@@ -43,8 +47,7 @@ pub fn advise_stop<E: Write>(alloc: Global, stop: &Stop, request: &Request<'_>, 
             put_file(request, Named::Log, &mut ink);
             ink.put(": another version of hd wrote it, which can copy it into the volume\n");
         }
-        Stop::OverInput | Stop::OneOutput | Stop::Words | Stop::NoType => {}
-        Stop::Table(_, _, _) => {}
+        Stop::OverInput | Stop::Words | Stop::NoType | Stop::Table(_, _, _) => {}
         Stop::Frame(_) | Stop::Fields => {}
         Stop::Refused(refusal) => advise(alloc, *refusal, None, request, &mut ink),
     }
