@@ -79,6 +79,10 @@ pub fn advise_stop<R: Files<File = File>, E: Write>(
             ink.name(request.name_of(*file));
             ink.put(": another program uses it; try again when that one has ended\n");
         }
+        Stop::OneOutput => {
+            ink.name(request.name_of(Named::Rows));
+            ink.put(": OUT is this file too\n");
+        }
         Stop::OtherVolume => {
             put_file(request, Named::Log, &mut ink);
             ink.put(
@@ -90,7 +94,7 @@ pub fn advise_stop<R: Files<File = File>, E: Write>(
             ink.put(": another version of hd wrote it, which can copy it into the volume\n");
         }
         Stop::Table(table) => put_table(request.name_of(Named::Rows), table, &mut ink),
-        Stop::OverInput | Stop::OneOutput | Stop::Words | Stop::NoType => {}
+        Stop::OverInput | Stop::Words | Stop::NoType => {}
         Stop::Frame(_) | Stop::Fields => {}
         Stop::Refused(refusal) => advise(alloc, *refusal, None, request, &mut ink),
     }
