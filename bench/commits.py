@@ -1,8 +1,8 @@
 #!/usr/bin/env python3
-"""Measures commits of a served program, and SQLite's beside them: a WAL with `synchronous=full`, on the same disk.
+"""Measures commits of a served program and of a deck, and SQLite's beside them: a WAL with `synchronous=full`, on the same disk.
 
-A turn makes so many commits, of so many updates each at random places, by hd and then by SQLite; times are medians over the turns, with the quartiles behind
-them, in milliseconds a commit. Where strace is there, a further turn of hd counts the syncs, writes and bytes of a commit.
+A turn makes so many commits, of so many updates each at random places, by a program, by a deck and then by SQLite; times are medians over the turns, with the
+quartiles behind them, in milliseconds a commit. That of a deck has its start, the check of the volume, and the copy at its end. Where strace is there, a further turn of hd counts the syncs, writes and bytes of a commit.
 
     bench/commits.py [--commits N] [--turns N] [--updates N ..] [--folder FOLDER]      FOLDER says on which disk
 """
@@ -72,6 +72,21 @@ class Hd:
         return took
 
 
+class Deck:
+    """The parts in a volume of their own, which decks change."""
+
+    def __init__(self):
+        shutil.copy("parts.volume", "deck.volume")
+
+    def turn(self, places, updates):
+        with open("deck", "wb") as deck:
+            for count, place in enumerate(places, 1):
+                deck.write(b"L     GHU  PART    (PARTNO  EQ%s)\nL     REPL\nD%s%054d\n" % (number(place), number(place), count))
+        start = time.monotonic()
+        subprocess.run([HD, "deck", "parts.dbd", "parts.psb", "deck.volume", "deck", "--commit", str(2 * updates)], stdout=subprocess.DEVNULL, check=True)
+        return time.monotonic() - start
+
+
 class SQLite:
     """The parts in a table."""
 
@@ -135,15 +150,16 @@ def main(words):
     with tempfile.TemporaryDirectory(dir=given.folder) as folder:
         os.chdir(folder)
         globals()["HD"] = program
-        bases = (Hd(), SQLite())
+        bases = (Hd(), Deck(), SQLite())
         random.seed(1)
         for updates in given.updates:
-            times = ([], [])
+            times = ([], [], [])
             for _ in range(given.turns):
                 places = [random.randrange(PARTS) for _ in range(given.commits * updates)]
                 for base, took in zip(bases, times):
                     took.append(base.turn(places, updates))
-            print(f"{given.commits} commits of {updates}: hd {told(times[0], given.commits)} ms, SQLite {told(times[1], given.commits)} ms a commit; ", end="")
+            program, deck, sqlite = (told(it, given.commits) for it in times)
+            print(f"{given.commits} commits of {updates}: a program {program} ms, a deck {deck} ms, SQLite {sqlite} ms a commit; ", end="")
             print("hd " + counted(bases[0], places, updates, given.commits))
 
 

@@ -5,14 +5,15 @@
 
 Decks, served programs and recovery itself run with a shim that keeps each write, change of a length, sync, new name and removed name, in order. Then
 images are made: the run is cut at some moment, and each write behind the last sync of its file is there, is lost, or is torn, in any mix. Each image is
-unloaded, which recovers it first: the stream must be the one from before the run or the one behind it, and behind the answer of the commit the latter. A volume that
-lost its log has one of the two or a fault. Beside that, runs are killed at random moments.
+unloaded, which recovers it first: the stream must be the one from before the run or that of one of its commits, and behind the last answer that of the last. A volume that
+lost its log has one of them or a fault. Beside that, runs are killed at random moments, with commits on their way and without.
 
 Its last line tells how many cases there were, and how many were wrong; its status is 1 if any was.
 """
 import argparse
 import os
 import random
+import re
 import shutil
 import signal
 import struct
@@ -196,8 +197,8 @@ def answered_at(trace):
     return outputs[-1] if outputs else len(trace)
 
 
-def try_images(place, what, rng, trace, before, old, new, images):
-    """Images of a run that made the stream `new` of `old`, over these files."""
+def try_images(place, what, rng, trace, before, commits, images):
+    """Images of a run over these files that committed what these streams say, one behind the other, the one from before it the first. Gives those that were found."""
     answered = answered_at(trace)
     seen = set()
     for _ in range(images):
@@ -208,17 +209,17 @@ def try_images(place, what, rng, trace, before, old, new, images):
         volume, log = disk.left(rng)
         place.put(volume, log)
         found = place.stream()
-        is_right = found == new if cut > answered else found in (old, new)
+        is_right = found == commits[-1] if cut > answered else found in commits
         expect(f"{what} cut at {cut} of {len(trace)}, answered at {answered}", is_right, found if not isinstance(found, bytes) else "a stream that never was")
-        seen.add(found == new if isinstance(found, bytes) else None)
+        seen.add(found if isinstance(found, bytes) else None)
         if not is_right:
             for name in (VOLUME, LOG):
                 os.path.exists(name) and shutil.copy(name, f"/tmp/wrong-{name}")
     return seen
 
 
-def try_parted(place, what, rng, trace, before, old, new, images):
-    """Images of a run whose log is lost: the volume is as it was, or as it is then, or it has a fault; it never passes half new."""
+def try_parted(place, what, rng, trace, before, commits, images):
+    """Images of a run whose log is lost: the volume is that of a commit, or it has a fault; it never passes half new."""
     for _ in range(images):
         cut = rng.randrange(len(trace) + 1)
         disk = Disk(*before)
@@ -226,7 +227,7 @@ def try_parted(place, what, rng, trace, before, old, new, images):
             disk.play(record)
         place.put(disk.left(rng)[0], None)
         found = place.stream()
-        is_right = found in (old, new) if isinstance(found, bytes) else found.returncode == 1
+        is_right = found in commits if isinstance(found, bytes) else found.returncode == 1
         expect(f"{what} cut at {cut} of {len(trace)} without its log", is_right, found if not isinstance(found, bytes) else "a stream that never was")
 
 
@@ -248,9 +249,9 @@ def try_decks(place, rng, images, runs):
             trace = traced(place, ["deck", "parts.dbd", "parts.psb", VOLUME, "deck"])
             new = place.stream()
             expect(f"{what} leaves no log", not os.path.exists(LOG))
-            seen = try_images(place, what, rng, trace, (place.first, None), old, new, images)
-            expect(f"{what} is seen as it was and as it is then", {True, False} <= seen or old == new, seen)
-            try_parted(place, what, rng, trace, (place.first, None), old, new, images // 4)
+            seen = try_images(place, what, rng, trace, (place.first, None), [old, new], images)
+            expect(f"{what} is seen as it was and as it is then", {old, new} <= seen)
+            try_parted(place, what, rng, trace, (place.first, None), [old, new], images // 4)
             try_recovery(place, f"recovery of {what}", rng, trace, old, new, images // 4)
 
 
@@ -267,15 +268,64 @@ def try_recovery(place, what, rng, trace, old, new, images):
         return
     place.put(*before)
     again = traced(place, ["recover", "parts.dbd", VOLUME])
-    try_images(place, what, rng, again, before, new, new, images)
+    try_images(place, what, rng, again, before, [new], images)
+
+
+def first_calls(deck, calls):
+    """The first calls of a deck, so many of them, each with its data."""
+    at = [match.start() for match in re.finditer(rb"^L", deck, re.M)]
+    return deck[: at[calls]] if calls < len(at) else deck
+
+
+def streams_of(place, deck, every):
+    """The streams that a deck with a commit behind every so many calls commits, and before them that from before it."""
+    streams = []
+    for calls in range(0, deck.count(b"\nL") + 1 + every, every):
+        write("deck", first_calls(deck, calls))
+        place.put(place.first, None)
+        place.must("deck", "parts.dbd", "parts.psb", VOLUME, "deck")
+        streams.append(place.stream())
+    return streams
+
+
+def try_commits(place, rng, images):
+    """Decks with commits on their way: a crash leaves one of them."""
+    for what, kinds in DECKS:
+        for every in (1, 5, 40):
+            deck = deck_of(rng, kinds, 12)
+            commits = streams_of(place, deck, every)
+            write("deck", deck)
+            place.put(place.first, None)
+            trace = traced(place, ["deck", "parts.dbd", "parts.psb", VOLUME, "deck", "--commit", str(every)])
+            expect(f"{what} is played with a commit behind every {every}", place.stream() == commits[-1])
+            seen = try_images(place, f"{what} with commits behind every {every}", rng, trace, (place.first, None), commits, images)
+            expect(f"{what} is seen between its commits", len(seen) > 2 or every == 40 or images < 40, len(seen))
+            try_parted(place, f"{what} with commits", rng, trace, (place.first, None), commits, images // 4)
 
 
 def try_reading_deck(place):
-    """A deck that only reads writes nothing."""
+    """A deck that only reads writes nothing, and commits nothing."""
     write("deck", b"L     GU   PART\nL  20 GN\n")
-    place.put(place.first, None)
-    trace = traced(place, ["deck", "parts.dbd", "parts.psb", VOLUME, "deck"])
-    expect("a deck that reads writes nothing", not [record for record in trace if record[0] in "WTCU"], trace)
+    for words in ([], ["--commit", "1"]):
+        place.put(place.first, None)
+        trace = traced(place, ["deck", "parts.dbd", "parts.psb", VOLUME, "deck", *words])
+        expect("a deck that reads writes nothing", not [record for record in trace if record[0] in "WTCU"], trace)
+
+
+def try_killed_commits(place, rng, kills):
+    """Decks with a commit behind every hundred calls, which are killed."""
+    for _ in range(kills):
+        what, kinds = rng.choice(DECKS)
+        deck = deck_of(rng, kinds, 400)
+        commits = streams_of(place, deck, 100)
+        write("deck", deck)
+        place.put(place.first, None)
+        process = subprocess.Popen([place.hd, "deck", "parts.dbd", "parts.psb", VOLUME, "deck", "--commit", "100"], stdout=subprocess.DEVNULL, stderr=subprocess.DEVNULL)
+        time.sleep(rng.random() * 0.06)
+        process.kill()
+        process.wait()
+        found = place.stream()
+        expect(f"{what} with commits killed", found in commits, found if not isinstance(found, bytes) else "a stream that never was")
 
 
 def try_kills(place, rng, kills):
@@ -324,8 +374,10 @@ def main():
     place = Place(given.folder)
     try:
         try_reading_deck(place)
-        try_decks(place, rng, max(1, given.images // 20), 4)
+        try_decks(place, rng, max(1, given.images // 24), 4)
+        try_commits(place, rng, max(1, given.images // 90))
         try_kills(place, rng, given.kills)
+        try_killed_commits(place, rng, max(1, given.kills // 10))
         try_served(place, rng, max(1, given.kills // 10))
     finally:
         place.remove()

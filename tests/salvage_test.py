@@ -5,8 +5,9 @@
 
 Of each damaged volume: salvage writes a stream, which reloads and passes; where the volume passes a check the stream is the one that unload writes; where the
 index alone is damaged no row is lost; and where blocks are lost, by zeros or a cut, the stream has at least the rows that no lost pointer cuts off, each below
-its own parent. Those are told here from the rule alone, of the volume as it was before. The last line tells how many cases there were, and how many were wrong;
-its status is 1 if any was.
+its own parent. Those are told here from the rule alone, of the volume as it was before. The file of --orphans has all other segments of the volume that are read
+from the front of its blocks, each with its address and its row, in the order that the rule gives. The last line tells how many cases there were, and how many
+were wrong; its status is 1 if any was.
 """
 import argparse
 import collections
@@ -138,6 +139,55 @@ class Volume:
                 if not backward:
                     break
         return twins[:front] + twins[max(front, back) :]
+
+
+# ---- what is left out, as text
+
+def shown(value, is_open):
+    """A value as a line of rows has it."""
+    if not is_open and all(32 <= byte <= 126 for byte in value):
+        value = value.rstrip(b" ")
+    text = b"".join(
+        b"\\" + bytes([byte]) if byte in b'"\\' else bytes([byte]) if 32 <= byte <= 126 else b"\\x%02x" % byte for byte in value
+    )
+    return b'"%b"' % text if not value or b" " in value or b'"' in value else text
+
+
+def parts_of(type):
+    """The parts of a type's rows: what they are called, where they begin, from 0, where they end, and whether that is open."""
+    fields = sorted(((name.rstrip(), field.start - 1, field.start - 1 + field.length) for name, field in type.fields.items()), key=lambda field: field[1])
+    covered, parts = 2 if type.least else 0, []
+    for name, start, end in fields:
+        if start > covered:
+            parts.append((b"%d-%d" % (covered + 1, start), covered, start, False))
+        parts.append((name, start, end, False))
+        covered = max(covered, end)
+    if covered < type.most:
+        parts.append((b"%d-" % (covered + 1) if type.least else b"%d-%d" % (covered + 1, type.most), covered, type.most, bool(type.least)))
+    return parts
+
+
+def line_of(type, data):
+    """A row as a line."""
+    parts = (b" %b=%b" % (name, shown(data[start:end], is_open)) for name, start, end, is_open in parts_of(type))
+    return b"  " * (type.level - 1) + type.name.encode() + b"".join(parts) + b"\n"
+
+
+def orphans_of(volume, left):
+    """The addresses of segments that are left out, in the order in which they are told: each that hangs below none by its address, and behind it those below it."""
+    below, hung = {address: [] for address in left}, set()
+    for address in sorted(left):
+        for child in volume.layout.children[volume.found[address]]:
+            twin = volume.pointer(address, ("first", child.code))
+            while twin in left and twin not in hung and volume.found[twin] == child.code:
+                below[address].append(twin)
+                hung.add(twin)
+                twin = volume.pointer(twin, "forward")
+
+    def told(address):
+        return [address] + [each for twin in below[address] for each in told(twin)]
+
+    return [each for address in sorted(left - hung) for each in told(address)]
 
 
 # ---- databases
@@ -276,7 +326,7 @@ class Tester:
     """hd over damaged volumes, in a folder of its own."""
 
     def __init__(self, program, seed):
-        self.hd, self.chance, self.cases, self.wrong = Program(program), random.Random(seed), 0, 0
+        self.hd, self.chance, self.cases, self.wrong, self.orphans = Program(program), random.Random(seed), 0, 0, 0
 
     def must(self, words, status=0):
         done = self.hd.run(*words)
@@ -304,7 +354,7 @@ class Tester:
         chance = self.chance
         damaged = damage(chance, image, database.block_size)
         write("b.volume", damaged)
-        said = self.must(["salvage", "--no-sync", "a.dbd", "b.volume", "b.stream"])
+        said = self.must(["salvage", "--no-sync", "a.dbd", "b.volume", "b.stream", "--orphans", "b.orphans"])
         stream = read("b.stream")
         self.must(["reload", "--no-sync", "a.dbd", "b.stream", "c.volume", 65_536])
         self.must(["check", "a.dbd", "c.volume"])
@@ -317,13 +367,34 @@ class Tester:
                 raise AssertionError("another stream than unload's")
         if damage in (index_alone, whole) and stream != read("a.stream"):
             raise AssertionError("rows are lost")
+        volume = Volume(Layout(database), damaged)
+        self.see_orphans(volume, rows, read("b.orphans"), said)
         if is_numbered:
-            volume = Volume(Layout(database), damaged)
             there = {(code, volume.data(address)) for address, code in volume.found.items()}
             if not set(rows) <= there:
                 raise AssertionError("a row that is no record")
             if damage in (zeroed, cut):
                 self.see_kept(Volume(Layout(database), image), volume, rows)
+
+    def see_orphans(self, volume, rows, text, said):
+        """What is not in the stream is told, by address, and nothing else."""
+        lines = text.splitlines(keepends=True)
+        told = [int(line.split(b" ")[0]) for line in lines]
+        if len(set(told)) != len(told) or not set(told) <= set(volume.found):
+            raise AssertionError("an orphan that is no segment, or is told twice")
+        segments = {address: (code, volume.data(address)) for address, code in volume.found.items()}
+        if collections.Counter(rows) + collections.Counter(segments[address] for address in told) != collections.Counter(segments.values()):
+            raise AssertionError("stream and orphans together are not what is read")
+        if told != orphans_of(volume, set(told)):
+            raise AssertionError("orphans out of order")
+        types = volume.layout.types
+        for line, address in zip(lines, told):
+            code, data = segments[address]
+            if line != b"%d %b" % (address, line_of(types[code - 1], data)):
+                raise AssertionError(f"orphan {line!r} at {address}")
+        if not said.endswith(b", left out %d\n" % len(told)):
+            raise AssertionError(f"{len(told)} orphans, but says {said!r}")
+        self.orphans += len(told)
 
     def see_kept(self, sound, damaged, rows):
         """Each row that no lost pointer cuts off is in the stream, below its own parent."""
@@ -349,7 +420,7 @@ class Tester:
                     self.wrong += 1
                     keep = f"/tmp/salvage-wrong-{self.wrong}"
                     os.makedirs(keep, exist_ok=True)
-                    for name in ("a.dbd", "a.stream", "a.volume", "b.volume", "b.stream"):
+                    for name in ("a.dbd", "a.stream", "a.volume", "b.volume", "b.stream", "b.orphans"):
                         if os.path.exists(name):
                             write(os.path.join(keep, name), read(name))
                     print(f"case {self.cases}, {damage.__name__} of {database.name}: {error}; see {keep}")
@@ -368,6 +439,7 @@ def main():
     with tempfile.TemporaryDirectory(prefix="hd-salvage-") as folder:
         os.chdir(folder)
         tester.play(given.cases)
+    print(f"{tester.orphans} segments were left out")
     print(f"{tester.cases} cases, {tester.wrong} wrong")
     return 1 if tester.wrong else 0
 

@@ -1,5 +1,5 @@
 -- What a crash leaves of calls with commits among them.
-use Rattle.std.proofs.Common.{◌≡◌, ℕ, List, [], ◌∷◌, ◌++◌, take, length, true, refl, inl, inr, ap, sym, ◌∙◌, subst}
+use Rattle.std.proofs.Common.{◌≡◌, ℕ, List, [], ◌∷◌, ◌++◌, length, true, refl, inl, inr, ap, sym, ◌∙◌, subst}
 use Rattle.hd_dbd.specs.Types.{View}
 use Rattle.hd_dbd.specs.Hierarchy.{Database}
 use Rattle.hd_dbd.specs.Segment.{Segment}
@@ -14,7 +14,7 @@ use Rattle.std.proofs.lemmas.List.{append-nil, length-map}
 use Rattle.hd_session.specs.Turns.{Turn}
 use Rattle.hd_session.specs.Requests.{Request, ask, commit, calls_in, committed_by, Lasts}
 use Rattle.hd_session.proofs.Requests.{calls_append, committed_append, lasts_both, one_lasts}
-use Rattle.hd_deck.specs.Runs.{IsPlayed, IsPlayedInPart}
+use Rattle.hd_deck.specs.Runs.{IsPlayed}
 use Rattle.hd_deck.specs.Commits.{Stored, IsDone}
 use Rattle.hd_journal.specs.Disk as disk
 use Rattle.hd_journal.specs.Log.{recovered}
@@ -173,7 +173,7 @@ failed d s pcbs store left requests before at pass failure =
           (none d pcbs store last requests before at pass done) (left_passes d pcbs store last requests before at pass done) failure.fails safe,
     )
 
--- ---- a deck that is one unit
+-- ---- a deck
 
 module _ (d : Database) (pcbs : List View) (store : Stored) (requests : List Request) (left : Stored) (done : IsDone d pcbs store requests left) (new : Committed) (is : IsCommitted left.bytes left.committed new) where
   more_calls : calls_in (requests ++ commit ∷ []) ≡ calls_in requests
@@ -188,7 +188,7 @@ module _ (d : Database) (pcbs : List View) (store : Stored) (requests : List Req
       ∙ committed_append requests (commit ∷ []) done.log.entries [] done.log.last done.log.last count refl
 
   -- a commit behind requests makes last what they left
-  committed_done : IsDone d pcbs store (requests ++ commit ∷ []) (record { bytes = left.bytes; committed = new })
+  pub committed_done : IsDone d pcbs store (requests ++ commit ∷ []) (record { bytes = left.bytes; committed = new })
   committed_done = record {
     log = done.log;
     played = subst (λ (ts : List Turn). IsPlayed d pcbs store.bytes ts done.log left.bytes) (sym more_calls) done.played;
@@ -197,41 +197,10 @@ module _ (d : Database) (pcbs : List View) (store : Stored) (requests : List Req
         (one_lasts left.committed new done.log.last (is.0 ∙ sym done.played.ends, is.1 ∙ sym done.played.ends, is.2)));
   }
 
--- calls without a commit among them
-asks : List Turn → List Request
-asks [] = []
-asks (turn ∷ turns) = ask turn ∷ asks turns
-
-calls_of_asks : (turns : List Turn) → calls_in (asks turns) ≡ turns
-unfolding asks
-calls_of_asks [] = refl
-calls_of_asks (turn ∷ turns) = ap (λ (ts : List Turn). turn ∷ ts) (calls_of_asks turns)
-
-none_committed : (turns : List Turn) (entries : List (Entry (List ℕ))) (last : List ℕ) → committed_by (asks turns) entries last ≡ []
-unfolding asks
-none_committed [] entries last = refl
-none_committed (turn ∷ turns) [] last = refl
-none_committed (turn ∷ turns) (e ∷ entries) last = none_committed turns entries last
-
--- they make nothing last
-asked_done : (d : Database) (pcbs : List View) (store : Stored) (turns : List Turn) (left : List ℕ) (part : IsPlayedInPart d pcbs store.bytes turns left)
-    → IsDone d pcbs store (asks (take part.made turns)) (record { bytes = left; committed = store.committed })
-asked_done d pcbs store turns left part = record {
-  log = part.log;
-  played = subst (λ (ts : List Turn). IsPlayed d pcbs store.bytes ts part.log left) (sym (calls_of_asks (take part.made turns))) part.played;
-  lasts = subst (λ (images : List (List ℕ)). Lasts images store.committed store.committed) (sym (none_committed (take part.made turns) part.log.entries part.log.last)) refl;
-}
-
+-- a deck, or a part of it
 units : (d : Database) → UnitsAreRequests d
-units d pcbs store turns new (inl same) = inl same
-units d pcbs store turns new (inr (left, part, inl is)) =
-    let before : Stored = record { bytes = left; committed = store.committed } in
-    let after : Stored = record { bytes = left; committed = new } in
-    let requests : List Request = asks (take part.made turns) in
-    inr (requests ++ commit ∷ [], left, record { last = after; done = committed_done d pcbs store requests before (asked_done d pcbs store turns left part) new is; fails = inl refl })
-units d pcbs store turns new (inr (left, part, inr tried)) =
-    let before : Stored = record { bytes = left; committed = store.committed } in
-    inr (asks (take part.made turns), left, record { last = before; done = asked_done d pcbs store turns left part; fails = inr (refl, tried) })
+units d pcbs store every turns new (inl same) = inl same
+units d pcbs store every turns new (inr part) = inr (part.requests, part.bytes, part.done)
 
 pub crash_law : (d : Database) (s : disk.State) → IsCrashLaw d s
 crash_law d s = record { opened = openings d; answered = answered d s; failed = failed d s; units = units d }

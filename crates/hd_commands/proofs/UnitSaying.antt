@@ -1,27 +1,25 @@
 -- What is known of a store behind a play is known of it behind a write of all that a cache had, and behind a commit.
 use Rattle.std.proofs.Common.{◌≡◌, ◌<◌, ◌≤◌, ◌⊎◌, ℕ, List, Bool, true, false, IsTrue, Result, Ok, Err, Some, Option, inl, inr, sym, ◌∙◌, ap, subst, arith, length}
 use Rattle.std.specs.Prelude.{OnOk, OnErr, IfOk, IfErr, unwrap_or}
-use Rattle.std.proofs.lemmas.List.{take_all}
 use Rattle.hd_dbd.specs.declared.answer.Refused.{Refused}
 use Rattle.hd_dbd.specs.declared.answer.Refused.TheVariants as refused
 use Rattle.hd_dbd.specs.Types.{View}
 use Rattle.hd_dbd.specs.Hierarchy.{Database}
-use Rattle.hd_stores.specs.Stores.{Committed, CountsFor, SoundFor}
+use Rattle.hd_stores.specs.Stores.{CountsFor, SoundFor}
 use Rattle.hd_image.specs.Holding.{volume_of}
 use Rattle.hd_check.specs.Checks.{IsFaulty}
-use Rattle.hd_session.specs.Turns.{Turn}
 use Rattle.hd_session.specs.declared.opening.OpenFault.TheVariants as opening
 use Rattle.hd_session.specs.Opening.{IsOpenFaultOf}
 use Rattle.hd_deck.specs.StepText.{StepText}
-use Rattle.hd_deck.specs.Runs.{turns_of, IsPlayed, IsWholeRun, IsPlayedInPart}
+use Rattle.hd_deck.specs.Runs.{turns_of, IsPlayedInPart}
 use Rattle.hd_commands.specs.declared.refusal.Refusal.{Refusal}
 use Rattle.hd_commands.specs.declared.refusal.Refusal.TheVariants.{Fault, Old, NotEmpty, Record, Full, Device, Memory}
 use Rattle.std.specs.Io.KnownBytes.{Appends}
 use Rattle.hd_commands.specs.Lines.{refusal_line}
 use Rattle.hd_commands.specs.declared.ended.Ended.{Ended}
 use Rattle.hd_commands.specs.Commands.{IsRefused}
-use Rattle.hd_commands.specs.Crashes.{Commits, UnitCommits, MayCommit, IsWritten}
-use Rattle.hd_commands.specs.Plays.{PlaysInPrint, PlaySays, UnitSays, FailsOrStays}
+use Rattle.hd_commands.specs.Units.{IsWritten}
+use Rattle.hd_commands.specs.Plays.{PlaySays, UnitSays, FailsOrStays}
 
 -- an access failed, or none did, by the refusal
 pub fails-or-stays : (e : Refused) (m n : ℕ) (a b : Bool) → CountsFor e m n → SoundFor e a b → (b ≡ a) × (n ≡ m) ⊎ (m < n) × (b ≡ false)
@@ -136,68 +134,6 @@ says-on is_sound failures contents is_sound' failures' contents' d pcbs steps ol
     let less : failures old ≤ failures new = no-fewer is_sound failures old new accesses in
     let fails = write-fails e (is_sound new) (failures new) (contents new) (is_sound' new') (failures' new') (contents' new') w in
     says-failed is_sound failures contents is_sound' failures' contents' d pcbs steps old new old' new' r (omega (arith, less, fails.0, count), fails.1) says
-
--- behind a write that is done the calls that were played are those that were played before
-pub plays-on : {S T : Type 0} (is_sound : S → Bool) (failures : S → ℕ) (contents : S → List ℕ) (is_sound' : T → Bool) (failures' : T → ℕ) (contents' : T → List ℕ)
-    (d : Database) (pcbs : List View) (steps : List StepText) (old new : S) (old' new' : T) (before after : Option (List ℕ)) (lacking : ℕ) (result : Result Unit Refused)
-    → is_sound' old' ≡ is_sound old → (IsTrue (is_sound' old') → contents' old' ≡ contents old)
-    → IsWritten result (is_sound new) (failures new) (contents new) (is_sound' new') (failures' new') (contents' new')
-    → FailsOrStays is_sound failures old new → failures new ≡ failures old → PlaysInPrint is_sound contents d pcbs steps old new before after lacking
-    → OnOk result (PlaysInPrint is_sound' contents' d pcbs steps old' new' before after lacking)
-plays-on is_sound failures contents is_sound' failures' contents' d pcbs steps old new old' new' before after lacking (Ok x) sound bytes w (inl stays) none played = λ now.
-    let then : IsTrue (is_sound old) = subst IsTrue sound now in
-    subst (λ (b : List ℕ). IsWholeRun d pcbs b (turns_of steps) before after lacking (contents' new')) (sym (bytes now))
-    (subst (λ (b : List ℕ). IsWholeRun d pcbs (contents old) (turns_of steps) before after lacking b) (sym (w.contents_kept (subst IsTrue (sym stays.0) then))) (played then))
-plays-on is_sound failures contents is_sound' failures' contents' d pcbs steps old new old' new' before after lacking (Ok x) sound bytes w (inr fails) none played = absurd (omega (arith, none, fails.0))
-plays-on is_sound failures contents is_sound' failures' contents' d pcbs steps old new old' new' before after lacking (Err e) sound bytes w accesses none played = tt
-
--- all calls are some of them
-whole-in-part : (d : Database) (pcbs : List View) (bytes : List ℕ) (turns : List Turn) (before after : Option (List ℕ)) (lacking : ℕ) (left : List ℕ)
-    → IsWholeRun d pcbs bytes turns before after lacking left → IsPlayedInPart d pcbs bytes turns left
-whole-in-part d pcbs bytes turns before after lacking left run = record {
-  made = length turns;
-  some = omega arith;
-  log = run.log;
-  played = subst (λ (made : List Turn). IsPlayed d pcbs bytes made run.log left) (sym (take_all (length turns) turns (omega arith))) run.played;
-}
-
-false-true : false ≡ true → ⊥
-false-true e = cc
-
--- where a commit was wanted, calls were made, all of them or the first, and what they left is what was tried
-wanted-left : {T : Type 0} (is_sound : T → Bool) (failures : T → ℕ) (contents : T → List ℕ) (d : Database) (pcbs : List View) (steps : List StepText) (old new : T)
-    (played : Result ℕ Ended) (written : Result Unit Refused) (before after told_before told_after : Option (List ℕ)) → IsTrue (is_sound old) → IsTrue (is_sound new)
-    → IfErr played (λ e. e.refusal ≡ Some Device) → OnErr written ⊥
-    → IfOk played (λ lacking. OnOk written (PlaysInPrint is_sound contents d pcbs steps old new before after lacking))
-    → IfErr played (λ e. IsRefused (UnitSays is_sound failures contents d pcbs steps old new) e told_before told_after)
-    → IsPlayedInPart d pcbs (contents old) (turns_of steps) (contents new)
-wanted-left is_sound failures contents d pcbs steps old new (Ok lacking) (Ok x) before after told_before told_after sound now write reach plays refused =
-    whole-in-part d pcbs (contents old) (turns_of steps) before after lacking (contents new) (plays sound)
-wanted-left is_sound failures contents d pcbs steps old new (Ok lacking) (Err e) before after told_before told_after sound now write reach plays refused = absurd reach
-wanted-left is_sound failures contents d pcbs steps old new (Err e) (Err f) before after told_before told_after sound now write reach plays refused = absurd reach
-wanted-left is_sound failures contents d pcbs steps old new (Err e) (Ok x) before after told_before told_after sound now write reach plays refused =
-    let device : refused.refusal ≡ Device = ap (λ (o : Option Refusal). unwrap_or o Device) (sym refused.named ∙ write) in
-    by-device (subst (λ (r : Refusal). UnitSays is_sound failures contents d pcbs steps old new r) device refused.says)
-  where
-    by-device : UnitSays is_sound failures contents d pcbs steps old new Device → IsPlayedInPart d pcbs (contents old) (turns_of steps) (contents new)
-    by-device (inl fails) = absurd (false-true (sym fails.1 ∙ now))
-    by-device (inr says) = says sound
-
--- what is committed of a unit is what calls of the deck left
-pub unit-commits : {T : Type 0} (is_sound : T → Bool) (failures : T → ℕ) (contents : T → List ℕ) (d : Database) (pcbs : List View) (steps : List StepText) (old new : T)
-    (played : Result ℕ Ended) (written : Result Unit Refused) (before after told_before told_after : Option (List ℕ)) (wanted : Bool) (first was then : Committed) → IsTrue (is_sound old)
-    → was ≡ first → MayCommit wanted (is_sound new) (contents new) was then
-    → (wanted ≡ true → IfErr played (λ e. e.refusal ≡ Some Device)) → (wanted ≡ true → OnErr written ⊥)
-    → IfOk played (λ lacking. OnOk written (PlaysInPrint is_sound contents d pcbs steps old new before after lacking))
-    → IfErr played (λ e. IsRefused (UnitSays is_sound failures contents d pcbs steps old new) e told_before told_after)
-    → UnitCommits d pcbs (contents old) (turns_of steps) first then
-unit-commits is_sound failures contents d pcbs steps old new played written before after told_before told_after wanted first was then sound begins (inl same) write reach plays refused = inl (same ∙ begins)
-unit-commits is_sound failures contents d pcbs steps old new played written before after told_before told_after wanted first was then sound begins (inr may) write reach plays refused =
-    inr (
-      contents new,
-      wanted-left is_sound failures contents d pcbs steps old new played written before after told_before told_after sound may.1 (write may.0) (reach may.0) plays refused,
-      subst (λ (k : Committed). Commits (contents new) k then) begins may.2,
-    )
 
 -- a command that was refused, where what one refusal says another says too
 pub refused-on : (result : Result ℕ Ended) (A B : Refusal → Type 0) (before after : Option (List ℕ)) → ((r : Refusal) → A r → B r)

@@ -3,7 +3,7 @@ use Rattle.std.proofs.Common.{◌≡◌, List, ℕ, Bool, true, false, IsTrue, R
 use Rattle.std.specs.Prelude.{not, OnOk, OnErr}
 use Rattle.hd_dbd.specs.declared.answer.Refused.{Refused}
 use Rattle.hd_stores.specs.Stores.{Committed, IsCommit, FailsCommit}
-use Rattle.hd_commands.specs.Crashes.{MayCommit}
+use Rattle.hd_commands.specs.Units.{MayCommit}
 
 -- a commit that was wanted, however it ended, of a store over an honest disk
 pub may-commit : (wanted is_sound failed : Bool) (contents contents' : List ℕ) (old new : Committed) (result : Result Unit Refused) → wanted ≡ true → is_sound ≡ not failed

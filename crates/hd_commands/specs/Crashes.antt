@@ -1,7 +1,5 @@
 -- What a crash leaves of a volume over which calls are made, with commits among them: the forest of a commit.
-use Rattle.std.specs.Prelude.{◌≡◌, ◌⊎◌, ℕ, ◌≤◌, Bool, true, IsTrue, List, [], ◌∷◌, Result, OnOk}
-use Rattle.hd_dbd.specs.declared.answer.Refused.{Refused}
-use Rattle.hd_dbd.specs.Refusals.{OnlyDevice}
+use Rattle.std.specs.Prelude.{◌≡◌, ◌⊎◌, ℕ, ◌≤◌, List, [], ◌∷◌, Option}
 use Rattle.hd_dbd.specs.Types.{SegmentType, View}
 use Rattle.hd_dbd.specs.Hierarchy.{Database}
 use Rattle.hd_dbd.specs.Segment.{Segment}
@@ -9,37 +7,15 @@ use Rattle.hd_dbd.specs.Logs.{Entry, Log}
 use Rattle.hd_calls.specs.NoLostUpdate.{opened}
 use Rattle.hd_calls.specs.Runs.{next_state, last_state}
 use Rattle.hd_calls.specs.Steps.{State}
-use Rattle.hd_stores.specs.Stores.{Commit, Committed, commits_of, CountsDevice, StaysSound}
+use Rattle.hd_stores.specs.Stores.{Commit, Committed, commits_of}
 use Rattle.hd_session.specs.Turns.{Turn}
 use Rattle.hd_session.specs.Requests.{Request, ask, commit}
-use Rattle.hd_deck.specs.Runs.{IsPlayedInPart}
 use Rattle.hd_deck.specs.Commits.{Stored, IsDone, IsDoneUntilFailure}
 use Rattle.hd_journal.specs.Disk as disk
 use Rattle.hd_journal.specs.Log.{recovered}
 use Rattle.hd_journal.specs.Framed.{IsSafe}
-use Rattle.hd_journal.specs.Journals.{IsCommitted}
 use Rattle.hd_commands.specs.Headline.{PassesFor}
-
--- ---- a deck that is one unit
-
--- A commit of these contents is done, behind those that were, or it was tried and failed.
-abbrev pub Commits : List ℕ → Committed → Committed → Type 0
-Commits contents old new = IsCommitted contents old new ⊎ (new ≡ record old { tried = contents })
-
--- What a unit of calls adds to the commits of a store that had this image: nothing, or one commit of what the first of its calls left, however many.
-abbrev pub UnitCommits : Database → List View → List ℕ → List Turn → Committed → Committed → Type 0
-UnitCommits d pcbs image turns old new = (new ≡ old) ⊎ (left : List ℕ) × IsPlayedInPart d pcbs image turns left × Commits left old new
-
--- All that a cache had has reached the store below, or an access failed.
-pub record IsWritten (result : Result Unit Refused) (is_sound : Bool) (failures : ℕ) (contents : List ℕ) (new_is_sound : Bool) (new_failures : ℕ) (new_contents : List ℕ) : Type 0 where
-  pub refusal : OnlyDevice result
-  pub counts : CountsDevice result failures new_failures
-  pub sound : StaysSound result is_sound new_is_sound
-  pub contents_kept : OnOk result (IsTrue is_sound → new_contents ≡ contents)
-
--- A store that is sound may commit these contents, done or tried, if that is wanted; else nothing is committed.
-abbrev pub MayCommit : Bool → Bool → List ℕ → Committed → Committed → Type 0
-MayCommit wanted is_sound contents old new = (new ≡ old) ⊎ (wanted ≡ true) × IsTrue is_sound × Commits contents old new
+use Rattle.hd_commands.specs.Units.{UnitCommits}
 
 -- ---- the rows of commits
 
@@ -115,10 +91,10 @@ CrashesLeaveCommitsOrTheLast d s =
     × (IsSafe left.committed s
     → LeavesCommits d ((last_state d.types pcbs (opened pcbs rows) failed.done.log.entries).rows ∷ []) (rows_of_commits d pcbs rows requests failed.done.log before) (commits_of left.committed) s)
 
--- a unit of calls over a store made nothing last, or it is some requests, its first calls and a commit, up to a failed access, if there was one
+-- a deck that was played over a store, or a part of it, made nothing last, or it is some requests, up to a failed access, if there was one
 abbrev pub UnitsAreRequests : Database → Type 0
 UnitsAreRequests d =
-    (pcbs : List View) (store : Stored) (turns : List Turn) (new : Committed) → UnitCommits d pcbs store.bytes turns store.committed new
+    (pcbs : List View) (store : Stored) (every : Option ℕ) (turns : List Turn) (new : Committed) → UnitCommits d pcbs store every turns new
     → (new ≡ store.committed) ⊎ (requests : List Request) × (bytes : List ℕ) × IsDoneUntilFailure d pcbs store requests (record { bytes = bytes; committed = new })
 
 -- The law of crashes: take a volume and a log that stand for an image which passes, and play any interleaved list of calls, with commits among them. Whatever

@@ -4,13 +4,13 @@ ghost use Rattle.hd_deck.specs.StepText.{StepFits};
 ghost use Rattle.hd_dbd.specs.Refusals.{OnlyDevice};
 ghost use Rattle.hd_stores.specs.Stores.{IsCommit, CountsDevice, StaysSound};
 ghost use Rattle.hd_journal.specs.Framed.{IsSafe};
-ghost use Rattle.hd_journal.specs.Journals.{IsCommitted};
 ghost use Rattle.hd_deck.specs.Runs.{turns_of};
+ghost use Rattle.hd_deck.specs.Commits.{stored_in};
 ghost use Rattle.hd_commands.specs.Commands.{IsRefused};
-ghost use Rattle.hd_commands.specs.Crashes.{MayCommit, UnitCommits, IsWritten};
-ghost use Rattle.hd_commands.specs.Plays.{PlaysInPrint, UnitSays, FailsOrStays};
+ghost use Rattle.hd_commands.specs.Units.{PlaysWithCommits, PlaysInPart, AddsCommits, IsWritten, MayCommit, PlaysUnit, UnitCommits};
+ghost use Rattle.hd_commands.specs.Plays.{UnitSays, FailsOrStays};
 
-use crate::deck_command::play_deck;
+use crate::deck_commits::play_and_commit;
 use crate::ended::{Ended, refuse};
 use crate::refusal::Refusal;
 use hd_dbd::{Dbd, Psb, Refused};
@@ -85,13 +85,14 @@ fn close_cache<D: Disk, L: Ledger>(
     (ahead.into_store(), written)
 }
 
-/// Plays a deck over a store through a cache of so many blocks, and gives the store back with what it was answered, and whether all that the cache had has
-/// reached it.
+/// Plays a deck over a store through a cache of so many blocks, with a commit behind every so many calls where that is wanted, and gives the store back with
+/// what it was answered, and whether all that the cache had has reached it.
 fn play_through<D: Disk, L: Ledger, P: Progress, O: Write, E: Write>(
     alloc: Global,
     dbd: &Dbd,
     psb: &Psb,
     steps: &[Step],
+    every: Option<u32>,
     store: Journaled<D, L>,
     cache: usize,
     progress: &P,
@@ -103,35 +104,39 @@ fn play_through<D: Disk, L: Ledger, P: Progress, O: Write, E: Write>(
     requires steps { All (StepFits (length psb.now.pcbs)) steps.now }
     requires count { length steps.now ≤ 2 ^ 30 }
     requires cache { (0 < cache) × (cache ≤ 65536) }
-    ensures played { IfOk result.1 (λ memory. OnOk result.2 (PlaysInPrint (λ s. s.is_sound) (λ s. s.contents) dbd.now psb.now.pcbs steps.now store result.0 (O.contents out.old) (O.contents out.new) memory)) }
+    ensures played { IfOk result.1 (λ m. OnOk result.2 (PlaysWithCommits (λ s. s.is_sound) (λ s. s.contents) (λ s. s.committed) dbd.now psb.now.pcbs every steps.now store result.0 (O.contents out.old) (O.contents out.new) m)) }
     ensures refused { IfErr result.1 (λ e. IsRefused (UnitSays (λ s. s.is_sound) (λ s. s.failures) (λ s. s.contents) dbd.now psb.now.pcbs steps.now store result.0) e (E.contents err.old) (E.contents err.new)) }
+    ensures part { IfErr result.1 (λ e. OnOk result.2 (e.refusal ≡ Some Refusal.Device → PlaysInPart (λ s. s.is_sound) (λ s. s.contents) (λ s. s.committed) dbd.now psb.now.pcbs every steps.now store result.0)) }
+    ensures commits { AddsCommits (λ s. s.is_sound) (λ s. s.contents) (λ s. s.committed) dbd.now psb.now.pcbs every steps.now store result.0 }
     ensures unwritten { OnErr result.2 ((store.failures < result.0.failures) × (result.0.is_sound ≡ false)) }
     ensures accesses { FailsOrStays (λ s. s.is_sound) (λ s. s.failures) store result.0 }
     ensures failures { OnOk result.2 (OnOk result.1 (result.0.failures ≡ store.failures)) }
     ensures quiet { OnOk result.1 (err.new ≡ err.old) }
     ensures silent { IfErr result.1 (λ e. e.status ≢ 3 → out.new ≡ out.old) }
-    ensures kept { (result.0.committed ≡ store.committed) × (result.0.size ≡ store.size) }
+    ensures size { result.0.size ≡ store.size }
 {
     let counted = match open_cache(alloc, store, cache) {
         Ok(cached) => Counted::new(cached, "playing", progress),
         Err(store) => return (store, Err(refuse(Refusal::Memory, err)), Ok(())),
     };
-    let (counted, played) = play_deck(alloc, dbd, psb, steps, counted, out, err);
+    let (counted, played) = play_and_commit(alloc, dbd, psb, steps, every, counted, out, err);
     let (store, written) = close_cache(counted.into_inner());
     (store, played, written)
 }
 
-/// Plays a deck as one unit over a volume and its log, through a cache of so many blocks, and makes last what its calls made of the volume. Says what
-/// the calls answer on `out`, or on `err` why they were not all made. Where they were, says how many of them found no memory.
+/// Plays a deck over a volume and its log, through a cache of so many blocks, and makes last what its calls made of the volume. Says what the calls answer on
+/// `out`, or on `err` why they were not all made. Where they were, says how many of them found no memory.
 ///
-/// From `Ok` on a crash leaves what the calls left, whenever it comes. Until then, and behind a refusal, it leaves the last commit's image, which is that
-/// before the deck where all of that was committed, or what the calls left: never what only a part of a call made. Of a moment before the deck it
-/// leaves what the commits before it say. Where a line could not be written, what was called before is committed too.
+/// The deck is one unit, where no number of calls is given, behind each of which there is a commit. From `Ok` on a crash leaves what the calls left, whenever
+/// it comes. Until then, and behind a refusal, it leaves the last commit's image, which is that before the deck where all of that was committed and none is made
+/// among its calls, or what the calls left: never what only a part of a call made. Of a moment before the deck it leaves what the commits before it say. Where
+/// a line could not be written, what was called before is committed too.
 pub fn play_unit<D: Disk, L: Ledger, P: Progress, O: Write, E: Write>(
     alloc: Global,
     dbd: &Dbd,
     psb: &Psb,
     steps: &[Step],
+    every: Option<u32>,
     store: Journaled<D, L>,
     cache: usize,
     progress: &P,
@@ -144,18 +149,17 @@ pub fn play_unit<D: Disk, L: Ledger, P: Progress, O: Write, E: Write>(
     requires count { length steps.now ≤ 2 ^ 30 }
     requires cache { (0 < cache) × (cache ≤ 65536) }
     ensures crash { IsTrue D.is_honest → IsSafe result.0.committed (D.state result.0.disk) }
-    ensures commits { IsTrue store.is_sound → IsTrue D.is_honest → UnitCommits dbd.now psb.now.pcbs store.contents (turns_of steps.now) store.committed result.0.committed }
-    ensures played { IfOk result.1 (λ memory. PlaysInPrint (λ s. s.is_sound) (λ s. s.contents) dbd.now psb.now.pcbs steps.now store result.0 (O.contents out.old) (O.contents out.new) memory) }
+    ensures commits { IsTrue store.is_sound → IsTrue D.is_honest → UnitCommits dbd.now psb.now.pcbs (stored_in (λ s. s.contents) (λ s. s.committed) store) every (turns_of steps.now) result.0.committed }
+    ensures played { IfOk result.1 (PlaysUnit (λ s. s.is_sound) (λ s. s.contents) (λ s. s.committed) dbd.now psb.now.pcbs every steps.now store result.0 (O.contents out.old) (O.contents out.new)) }
     ensures refused { IfErr result.1 (λ e. IsRefused (UnitSays (λ s. s.is_sound) (λ s. s.failures) (λ s. s.contents) dbd.now psb.now.pcbs steps.now store result.0) e (E.contents err.old) (E.contents err.new)) }
     ensures accesses { FailsOrStays (λ s. s.is_sound) (λ s. s.failures) store result.0 }
-    ensures lasts { OnOk result.1 (IsTrue result.0.is_sound → IsCommitted result.0.contents store.committed result.0.committed) }
     ensures failures { OnOk result.1 (result.0.failures ≡ store.failures) }
     ensures quiet { OnOk result.1 (err.new ≡ err.old) }
     ensures silent { IfErr result.1 (λ e. e.status ≢ 3 → out.new ≡ out.old) }
     ensures size { result.0.size ≡ store.size }
 {
     let (mut store, played, written) = play_through(
-        alloc, dbd, psb, steps, store, cache, progress, out, err,
+        alloc, dbd, psb, steps, every, store, cache, progress, out, err,
     );
     let wanted = is_wanted(&played, &written);
     let committed = commit_if(&mut store, wanted);

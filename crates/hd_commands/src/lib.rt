@@ -3,6 +3,7 @@
 
 mod check_command;
 mod deck_command;
+mod deck_commits;
 mod deck_unit;
 mod ended;
 mod law;

@@ -16,6 +16,11 @@ impl<W: Write> Held<W> {
     pub fn release(&mut self) -> io::Result<()> {
         self.inner.flush()
     }
+
+    /// The writer behind.
+    pub fn into_inner(self) -> W {
+        self.inner
+    }
 }
 
 impl<W: Write> Write for Held<W> {

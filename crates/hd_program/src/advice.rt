@@ -67,6 +67,10 @@ pub fn advise_stop<R: Files<File = File>, E: Write>(
             ink.name(request.name_of(*file));
             ink.put(": another program uses it; try again when that one has ended\n");
         }
+        Stop::OneOutput => {
+            ink.name(request.name_of(Named::Rows));
+            ink.put(": OUT is this file too\n");
+        }
         Stop::OtherVolume => {
             put_file(request, Named::Log, &mut ink);
             ink.put(
@@ -104,6 +108,16 @@ fn source_text<'a>(request: &Request<'a>, file: Named, source: &'a [u8]) -> Sour
         file,
         name: request.name_of(file),
         source,
+    }
+}
+
+/// Writes the line that says how many calls of a deck were answered Full, if any were.
+pub fn advise_full<E: Write>(calls: u64, err: &mut E) {
+    if calls > 0 {
+        let _ = writeln!(
+            err,
+            "calls answered Full: {calls}; the volume has no room for their rows: unload it, and reload it with more BLOCKS"
+        );
     }
 }
 

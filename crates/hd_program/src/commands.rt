@@ -1,6 +1,6 @@
-use crate::advice::{advise_refusal, advise_stop};
+use crate::advice::{advise_full, advise_refusal, advise_stop};
 use crate::check_command::check_file;
-use crate::console::Console;
+use crate::console::{Console, Further, NOTHING_FURTHER};
 use crate::copy_command::copy_file;
 use crate::deck_command::{play_file, play_sample};
 use crate::explain_command::explain_word;
@@ -63,13 +63,17 @@ where
     };
     let mut out = Watched::over(Unmixed::output(out, progress));
     let mut err = Unmixed::errors(err, progress);
-    let performed = perform(rt, request, progress, input, &mut out, &mut err);
+    let (performed, further) = perform(rt, request, progress, input, &mut out, &mut err);
     progress.end();
     let status = match &performed {
         Ok(ended) => ended.status,
         Err(stop) => stopped(stop, &mut err),
     };
+    if let Some(calls) = further.committed {
+        let _ = writeln!(err, "committed: at least the first {calls} calls");
+    }
     if says_more {
+        advise_full(further.full, &mut err);
         say_more(rt, performed, out.last_error(), &request, &mut err);
     }
     status
@@ -135,7 +139,7 @@ where
     }
 }
 
-/// Does what is asked for, with these streams, and says how it ended.
+/// Does what is asked for, with these streams, and says how it ended, and what is to be said behind that.
 fn perform<'c, R, P, I, O, E>(
     rt: &'c R,
     request: Request<'_>,
@@ -143,7 +147,7 @@ fn perform<'c, R, P, I, O, E>(
     input: &mut I,
     out: &'c mut O,
     err: &'c mut E,
-) -> Result<Ended, Stop>
+) -> (Result<Ended, Stop>, Further)
 where
     R: Files<File = File> + AllocGlobal,
     P: Progress,
@@ -157,8 +161,10 @@ where
         progress,
         out,
         err,
+        further: NOTHING_FURTHER,
     };
-    command(&mut console, request, input)
+    let ended = command(&mut console, request, input);
+    (ended, console.further)
 }
 
 /// The command that is asked for.
@@ -182,9 +188,13 @@ where
             psb,
             volume,
             deck,
+            every,
+            compares,
             cache,
             syncs,
-        } => play_file(console, dbd, psb, volume, deck, cache, syncs),
+        } => play_file(
+            console, dbd, psb, volume, deck, every, compares, cache, syncs,
+        ),
         Request::Serve {
             dbd,
             psb,
@@ -218,9 +228,10 @@ where
             dbd,
             volume,
             out: stream,
+            orphans,
             cache,
             syncs,
-        } => salvage_file(console, dbd, volume, stream, cache, syncs),
+        } => salvage_file(console, dbd, volume, stream, orphans, cache, syncs),
         Request::Reload {
             dbd,
             input,

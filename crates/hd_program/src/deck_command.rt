@@ -2,9 +2,10 @@ ghost use Rattle.std.specs.Prelude.{◌≡◌, ◌<◌, ◌≤◌, ◌^◌, leng
 ghost use Rattle.hd_dbd.specs.ProgramRules.{type_names};
 ghost use Rattle.hd_deck.specs.StepText.{StepFits};
 
-use crate::console::Console;
+use crate::compared::{Compared, Expectations};
+use crate::console::{Console, Further, NOTHING_FURTHER};
 use crate::dbd_source::{blocks_for_calls, read_database};
-use crate::lines::{DEVICE_FAILED, LINE};
+use crate::lines::{DEVICE_FAILED, DIFFERS, LINE};
 use crate::sample;
 use crate::stop::Stop;
 use crate::volume_store::{
@@ -134,42 +135,64 @@ pub fn read_program<R: Files<File = File>>(
     }
 }
 
-/// The steps that a file of a deck has, for a program of so many PCBs.
+/// What a deck expects of its calls, if that is to be compared.
+fn read_expectations(
+    alloc: Global,
+    text: &[u8],
+    steps: &[Step],
+    compares: bool,
+) -> Result<Expectations, Stop> {
+    if compares {
+        Expectations::read(alloc, text, steps)
+    } else {
+        Ok(Expectations::none(alloc))
+    }
+}
+
+/// The steps that a file of a deck has, for a program of so many PCBs, and what it expects of their calls, if that is to be compared.
 fn read_steps<R: Files<File = File>>(
     rt: &R,
     alloc: Global,
     pcbs: u8,
     name: &str,
-) -> Result<(Vec<Step>, Identity), Stop>
+    compares: bool,
+) -> Result<(Vec<Step>, Expectations, Identity), Stop>
     requires { 0 < pcbs }
     ensures fit { IfOk result (λ s. All (StepFits pcbs) s.0.items) }
     ensures few { IfOk result (λ s. length s.0.items ≤ 2 ^ 30) }
 {
     let (text, identity) = read_file(rt, alloc, name, Named::Deck)?;
     match read_deck(alloc, &text, pcbs) {
-        Ok(steps) => Ok((steps, identity)),
+        Ok(steps) => {
+            let expectations = read_expectations(alloc, &text, &steps, compares)?;
+            Ok((steps, expectations, identity))
+        }
         Err(fault) => Err(Stop::deck(fault, text, Named::Deck)),
     }
 }
 
-/// The lines of a deck's calls, whose last go out when they are let go, and room for what is said at the end.
+/// The lines of a deck's calls, whose last go out when they are let go, and which are compared with what is expected; and room for what is said at the end.
 fn held_lines<'p, O: Write, P: Progress>(
     alloc: Global,
     out: &'p mut O,
     steps: &[Step],
+    expectations: Expectations,
     progress: &'p P,
-) -> Result<(Held<Answers<'p, Pieces<&'p mut O>, P>>, Vec<u8>), Stop> {
+) -> Result<(Held<Compared<Answers<'p, Pieces<&'p mut O>, P>>>, Vec<u8>), Stop> {
     let lines = lines_into(alloc, out, steps, progress)?;
     let said = Vec::with_capacity(alloc, LINE)?;
-    Ok((Held::over(lines), said))
+    Ok((Held::over(Compared::over(lines, expectations)), said))
 }
 
-/// What came of a deck that was played over a volume and its log: how it ended and what is said of that, whether the last lines of its calls went out, and
-/// whether all commits are in the volume.
+/// What came of a deck that was played over a volume and its log: how it ended and what is said of that, how many of its calls have a line and how many were
+/// answered Full, what it expects, whether the last lines went out, and whether all commits are in the volume.
 #[derive(Drop)]
 struct Played {
     ended: Ended,
     said: Vec<u8>,
+    answered: u64,
+    full: u64,
+    expectations: Expectations,
     released: io::Result<()>,
     settled: Result<(), ()>,
 }
@@ -181,12 +204,26 @@ enum Unplayed {
     Memory,
 }
 
-/// Plays a deck as one unit over a store, through a cache of so many blocks. What its calls changed is then committed.
+/// Behind how many calls of a deck at least there was a commit, where so many have a line, and there is one behind every so many: a call has its line before
+/// its commit, and that is done before the next call.
+fn committed_calls(every: Option<u32>, answered: u64) -> Option<u64> {
+    match every {
+        Some(every) if every > 0 => {
+            let before = answered.saturating_sub(1);
+            Some(before - before % u64::from(every))
+        }
+        _ => None,
+    }
+}
+
+/// Plays a deck over a store, through a cache of so many blocks, as one unit, or with a commit behind every so many calls. What its calls changed is then
+/// committed.
 fn play_store<D: Disk, L: Ledger, P: Progress, O: Write>(
     alloc: Global,
     dbd: &Dbd,
     psb: &Psb,
     steps: &[Step],
+    every: Option<u32>,
     store: Journaled<D, L>,
     cache: u32,
     progress: &P,
@@ -199,20 +236,23 @@ fn play_store<D: Disk, L: Ledger, P: Progress, O: Write>(
     requires count { length steps.now ≤ 2 ^ 30 }
 {
     let cache = cache.clamp(1, 65_536) as usize;
-    let (store, played) = play_unit(alloc, dbd, psb, steps, store, cache, progress, out, said);
+    let (store, played) = play_unit(
+        alloc, dbd, psb, steps, every, store, cache, progress, out, said,
+    );
     (store, end_of(played))
 }
 
-/// Plays a deck as one unit over a store. Only when what its calls changed is committed the last of its lines go out.
-fn play_held<D: Disk, L: Ledger, P: Progress, O: Write>(
+/// Plays a deck over a store, as one unit or with commits on its way. Only when what its calls changed is committed the last of its lines go out.
+fn play_held<D: Disk, L: Ledger, P: Progress, O: Write + Drop>(
     alloc: Global,
     dbd: &Dbd,
     psb: &Psb,
     steps: &[Step],
+    every: Option<u32>,
     store: Journaled<D, L>,
     cache: u32,
     progress: &P,
-    lines: &mut Held<O>,
+    lines: Held<Compared<Answers<'_, O, P>>>,
     said: Vec<u8>,
 ) -> (D, Played)
     requires size { store.size ≡ dbd.now.block_size }
@@ -220,27 +260,33 @@ fn play_held<D: Disk, L: Ledger, P: Progress, O: Write>(
     requires steps { All (StepFits (length psb.now.pcbs)) steps.now }
     requires count { length steps.now ≤ 2 ^ 30 }
 {
-    let mut said = said;
+    let (mut lines, mut said) = (lines, said);
     let (store, ended) = play_store(
-        alloc, dbd, psb, steps, store, cache, progress, lines, &mut said,
+        alloc, dbd, psb, steps, every, store, cache, progress, &mut lines, &mut said,
     );
     let released = lines.release();
     let (disk, settled) = close_store(store);
+    let lines = lines.into_inner();
     let played = Played {
         ended,
         said,
+        answered: lines.inner().answered(),
+        full: lines.full(),
+        expectations: lines.into_expectations(),
         released,
         settled,
     };
     (disk, played)
 }
 
-/// Plays a deck as one unit over a volume and its log, in which a program left this, with a ledger for the accesses that fail.
+/// Plays a deck over a volume and its log, in which a program left this, as one unit or with commits on its way, with a ledger for the accesses that fail.
 fn play_disk<D: Disk, L: Ledger, P: Progress, O: Write, E: Write>(
     alloc: Global,
     dbd: &Dbd,
     psb: &Psb,
     steps: &[Step],
+    every: Option<u32>,
+    expectations: Expectations,
     disk: D,
     left: Left,
     cache: u32,
@@ -261,16 +307,17 @@ fn play_disk<D: Disk, L: Ledger, P: Progress, O: Write, E: Write>(
         Ok(store) => store,
         Err((disk, unopened)) => return (disk, Err(Unplayed::Unopened(unopened))),
     };
-    let Ok((mut lines, said)) = held_lines(alloc, out, steps, progress) else {
+    let Ok((lines, said)) = held_lines(alloc, out, steps, expectations, progress) else {
         return (store.into_disk(), Err(Unplayed::Memory));
     };
     let (disk, played) = play_held(
-        alloc, dbd, psb, steps, store, cache, progress, &mut lines, said,
+        alloc, dbd, psb, steps, every, store, cache, progress, lines, said,
     );
     (disk, Ok(played))
 }
 
-/// How a deck ended over files of which the system said this, if it refused an access.
+/// How a deck ended over files of which the system said this, if it refused an access. One that was played, and whose calls were answered something else than it
+/// expects, ends with 1.
 fn ended_with<E: Write>(
     played: Played,
     error: Option<io::Error>,
@@ -285,16 +332,51 @@ fn ended_with<E: Write>(
         }
     }
     let _ = err.write_all(&played.said);
+    let is_played = played.ended.refusal.is_none();
+    if is_played && played.expectations.tell(err) && played.ended.status == 0 {
+        return Ok(Ended::with_status(DIFFERS));
+    }
     Ok(played.ended)
 }
 
-/// Plays a deck as one unit over the files of a volume, in whose log a program left this, with a ledger for the accesses that fail. What its calls changed is
-/// then committed, on the disk if that is wanted; only then the last lines of its calls go out.
+/// How a deck ended that was played over files, and what is to be said behind that.
+#[derive(Drop)]
+struct Unit {
+    ended: Result<Ended, Stop>,
+    further: Further,
+}
+
+impl Unit {
+    /// A deck of which no call was made.
+    fn not_played(stop: Stop) -> Unit {
+        Unit {
+            ended: Err(stop),
+            further: NOTHING_FURTHER,
+        }
+    }
+}
+
+/// What is to be said behind the line that says how a deck ended.
+fn further_of(played: &Played, every: Option<u32>) -> Further {
+    let committed = match played.ended.status {
+        DEVICE_FAILED => committed_calls(every, played.answered),
+        _ => None,
+    };
+    Further {
+        committed,
+        full: played.full,
+    }
+}
+
+/// Plays a deck over the files of a volume, in whose log a program left this, as one unit or with commits on its way, with a ledger for the accesses that
+/// fail. What its calls changed is then committed, on the disk if that is wanted; only then the last lines of its calls go out.
 fn play_over<L: Ledger, R: Files<File = File>, P: Progress, O: Write, E: Write>(
     alloc: Global,
     dbd: &Dbd,
     psb: &Psb,
     steps: &[Step],
+    every: Option<u32>,
+    expectations: Expectations,
     files: VolumeFiles<'_, R>,
     left: Left,
     cache: u32,
@@ -302,7 +384,7 @@ fn play_over<L: Ledger, R: Files<File = File>, P: Progress, O: Write, E: Write>(
     progress: &P,
     out: &mut O,
     err: &mut E,
-) -> Result<Ended, Stop>
+) -> Unit
     requires name { blank.name ≡ L.name }
     requires parts { blank.parts ≡ L.parts }
     requires share { 0 < blank.parts }
@@ -311,15 +393,29 @@ fn play_over<L: Ledger, R: Files<File = File>, P: Progress, O: Write, E: Write>(
     requires count { length steps.now ≤ 2 ^ 30 }
 {
     let (files, played) = play_disk::<VolumeFiles<'_, R>, L, P, O, E>(
-        alloc, dbd, psb, steps, files, left, cache, blank, progress, out, err,
+        alloc,
+        dbd,
+        psb,
+        steps,
+        every,
+        expectations,
+        files,
+        left,
+        cache,
+        blank,
+        progress,
+        out,
+        err,
     );
     match played {
         Ok(played) => {
             let error = close_files(files, played.settled);
-            ended_with(played, error, err)
+            let further = further_of(&played, every);
+            let ended = ended_with(played, error, err);
+            Unit { ended, further }
         }
-        Err(Unplayed::Unopened(unopened)) => Err(not_opened(files, unopened)),
-        Err(Unplayed::Memory) => Err(Stop::from(Refusal::Memory)),
+        Err(Unplayed::Unopened(unopened)) => Unit::not_played(not_opened(files, unopened)),
+        Err(Unplayed::Memory) => Unit::not_played(Stop::from(Refusal::Memory)),
     }
 }
 
@@ -329,24 +425,39 @@ fn play_own<R: Files<File = File>, P: Progress, O: Write, E: Write>(
     dbd: &Dbd,
     psb: &Psb,
     steps: &[Step],
+    every: Option<u32>,
+    expectations: Expectations,
     files: VolumeFiles<'_, R>,
     left: Left,
     cache: u32,
     progress: &P,
     out: &mut O,
     err: &mut E,
-) -> Result<Ended, Stop>
+) -> Unit
     requires matches { psb.now.made_for ≡ type_names dbd.now.types }
     requires steps { All (StepFits (length psb.now.pcbs)) steps.now }
     requires count { length steps.now ≤ 2 ^ 30 }
 {
     let blank = Blank::new(1);
     play_over::<Brand, R, P, O, E>(
-        alloc, dbd, psb, steps, files, left, cache, blank, progress, out, err,
+        alloc,
+        dbd,
+        psb,
+        steps,
+        every,
+        expectations,
+        files,
+        left,
+        cache,
+        blank,
+        progress,
+        out,
+        err,
     )
 }
 
-/// Plays the deck in a file over the volume in another, as one unit. The DBD, the PSB and the deck are read and judged first,
+/// Plays the deck in a file over the volume in another, as one unit, or with a commit behind every so many calls, and compares what is answered with
+/// what the deck expects, if that is wanted. The DBD, the PSB and the deck are read and judged first,
 /// in this order, then the volume is opened; only then is it judged. Says how it ended.
 pub fn play_file<R, P, O, E>(
     console: &mut Console<'_, R, P, O, E>,
@@ -354,6 +465,8 @@ pub fn play_file<R, P, O, E>(
     psb: &str,
     volume: &str,
     deck: &str,
+    every: Option<u32>,
+    compares: bool,
     cache: Option<u32>,
     syncs: bool,
 ) -> Result<Ended, Stop>
@@ -366,20 +479,25 @@ where
     let (rt, alloc) = (console.rt, console.alloc);
     let (dbd, source) = read_database(rt, alloc, dbd)?;
     let (psb, program) = read_program(rt, alloc, &dbd, psb)?;
-    let (steps, text) = read_steps(rt, alloc, psb.pcbs().len() as u8, deck)?;
+    let pcbs = psb.pcbs().len() as u8;
+    let (steps, expectations, text) = read_steps(rt, alloc, pcbs, deck, compares)?;
     let volume = open_volume(rt, volume, &[source, program, text])?;
     let cache = cache.unwrap_or(blocks_for_calls(&dbd));
     let (files, left) = open_files(alloc, volume, syncs)?;
-    play_own(
+    let played = play_own(
         alloc,
         &dbd,
         &psb,
         &steps,
+        every,
+        expectations,
         files,
         left,
         cache,
         console.progress,
         &mut *console.out,
         &mut *console.err,
-    )
+    );
+    console.further = played.further;
+    played.ended
 }

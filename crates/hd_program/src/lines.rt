@@ -1,6 +1,9 @@
 use std::alloc::{AllocError, Global};
 use std::io::{self, Write};
 
+/// The status of a deck of which a call was answered something else than it expects.
+pub const DIFFERS: u8 = 1;
+
 /// The status of a command that a failed access ended.
 pub const DEVICE_FAILED: u8 = 3;
 

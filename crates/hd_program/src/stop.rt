@@ -45,6 +45,8 @@ pub enum Stop {
     /// The system refused to make a new file beside one, in which the result for it was to be written.
     Beside(Named, io::Error),
     OverInput,
+    /// Two results would go into one file.
+    OneOutput,
     InUse(Named),
     /// The log beside a volume has commits of another file.
     OtherVolume,
@@ -85,6 +87,7 @@ impl fmt::Display for Stop {
             Stop::Refused(refusal) => return write!(f, "{refusal}"),
             Stop::File(_, _) | Stop::Beside(_, _) => "device failed",
             Stop::OverInput => "output file is also an input, nothing was changed",
+            Stop::OneOutput => "both output files are one, nothing was changed",
             Stop::InUse(_) => "volume is in use",
             Stop::OtherVolume => "log of another volume",
             Stop::OtherVersion => "log of another version",
@@ -156,7 +159,7 @@ impl Stop {
             Stop::Fields => 2,
             Stop::File(_, _) | Stop::Beside(_, _) | Stop::InUse(_) | Stop::Frame(_) => 3,
             Stop::OtherVolume | Stop::OtherVersion | Stop::Waiting(_) => 3,
-            Stop::OverInput | Stop::Words | Stop::NoType => COMMAND_LINE,
+            Stop::OverInput | Stop::OneOutput | Stop::Words | Stop::NoType => COMMAND_LINE,
             Stop::Refused(refusal) => refusal.status(),
         }
     }

@@ -47,7 +47,7 @@ pub fn put_head<W: Write>(out: &mut W, dbd: &Dbd) -> Result<(), SalvageFault>
 }
 
 /// Writes the record of a row: its code, its length and its bytes.
-fn put_row<W: Write>(out: &mut W, code: u8, bytes: &[u8]) -> Result<(), SalvageFault>
+pub fn put_row<W: Write>(out: &mut W, code: u8, bytes: &[u8]) -> Result<(), SalvageFault>
     requires { length bytes.now < 65536 }
     ensures record { OnOk result (Appends (W.contents out.old) (W.contents out.new) (record_bytes (record { code = code; bytes = bytes.now }))) }
     ensures refusal { IfErr result (λ e. e ≡ SalvageFault.Write) }

@@ -8,6 +8,7 @@ mod damage;
 mod database;
 mod ink;
 mod markup;
+mod parents;
 mod seen;
 mod survey;
 mod surveying;
@@ -16,6 +17,7 @@ mod text;
 mod tree;
 mod twins;
 mod volume;
+mod warnings;
 
 pub use database::draw_database;
 pub use seen::{Seen, see_segment};

@@ -22,7 +22,8 @@ pub struct BlockUse {
 }
 
 /// The segments of a type: how many they are, the bytes that they take in data blocks, and of these their own; how many parents
-/// have such children, in how many twin chains they stand, and how many are in the longest. Of damage, the twin forward
+/// have such children, in how many twin chains they stand, and how many are in the longest, with the address of the first of them and, where that is long, of
+/// its parent, 0 for none. Of damage, the twin forward
 /// pointers that name no segment of the type, and the chains that come upon a segment that is passed already.
 #[derive(Clone, Copy)]
 pub struct TypeUse {
@@ -32,6 +33,8 @@ pub struct TypeUse {
     pub parents: u32,
     pub chains: u32,
     pub longest: u32,
+    pub longest_first: u32,
+    pub longest_parent: u32,
     pub nowhere: u32,
     pub looping: u32,
 }
@@ -75,6 +78,9 @@ pub struct TypeBytes {
     pub chains: u64,
 }
 
+/// The most twins of a chain through which a search goes quickly.
+const MANY_TWINS: u32 = 1_000;
+
 impl TypeUse {
     /// Of no segment.
     pub fn none() -> TypeUse {
@@ -85,6 +91,8 @@ impl TypeUse {
             parents: 0,
             chains: 0,
             longest: 0,
+            longest_first: 0,
+            longest_parent: 0,
             nowhere: 0,
             looping: 0,
         }
@@ -94,6 +102,11 @@ impl TypeUse {
     /// than parents.
     pub fn is_damaged(&self) -> bool {
         self.nowhere != 0 || self.looping != 0 || self.chains != self.parents
+    }
+
+    /// Whether a twin chain is so long that a search goes through it slowly.
+    pub fn has_long_chain(&self) -> bool {
+        self.longest > MANY_TWINS
     }
 
     /// The bytes of the segments, which are of the type of a code.
@@ -155,6 +168,14 @@ impl Survey {
             }
         }
         highest
+    }
+
+    /// How many levels of the index have blocks.
+    pub fn levels(&self) -> u32 {
+        match self.tally(Kind::Index(0)).blocks {
+            0 => 0,
+            _ => u32::from(self.highest_level()) + 1,
+        }
     }
 
     /// The bytes that segments or entries can take in a block of a kind.

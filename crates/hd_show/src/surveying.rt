@@ -6,6 +6,7 @@ ghost use Rattle.hd_volume.specs.Calls.{IsRead};
 ghost use Rattle.hd_volume.specs.declared.load.TheConstants.{MOST_BLOCKS};
 
 use crate::blocks::{Found, note_block};
+use crate::parents::find_parents;
 use crate::survey::{Survey, TypeUse};
 use crate::twins::{count_chains, note_parent};
 use hd_dbd::{Dbd, Refused, SegmentSize};
@@ -14,7 +15,7 @@ use hd_stores::BlockStore;
 use hd_volume::{MOST_BLOCKS, Volume, size_table};
 use std::alloc::Global;
 
-/// Surveys a volume, whatever its bytes are: each block is read once, in order, and nothing is changed. At most 65,536 whole
+/// Surveys a volume, whatever its bytes are: each block is read once, in order, and where a twin chain is long once more; nothing is changed. At most 65,536 whole
 /// blocks are read. The time grows with the bytes, and with the segments times their number's logarithm; the memory is a few
 /// bytes a block and twelve a segment. `Memory` says that it is wanting, `Device` that an access failed.
 pub fn survey_volume<S: BlockStore>(
@@ -41,7 +42,20 @@ pub fn survey_volume<S: BlockStore>(
         note_parent(&mut found.types, 1);
     }
     count_chains(&mut found.twins, &mut found.types);
+    if has_long_chain(&found.types) {
+        find_parents(&mut found.types, volume, dbd, &sizes)?;
+    }
     Ok(survey_of(found, volume, dbd))
+}
+
+/// Whether a chain of a type below the root is long.
+fn has_long_chain(types: &[TypeUse]) -> bool {
+    for place in 1..types.len() {
+        if types[place].has_long_chain() {
+            return true;
+        }
+    }
+    false
 }
 
 /// Notes all blocks of a volume, and their segments.

@@ -93,7 +93,7 @@ fn is_joined(twins: &mut Vec<Twin>, place: usize, found: Option<usize>, code: u8
 }
 
 /// What is found of the type of a code.
-fn type_at(types: &mut Vec<TypeUse>, code: u8) -> Option<&mut TypeUse> {
+pub fn type_at(types: &mut Vec<TypeUse>, code: u8) -> Option<&mut TypeUse> {
     types.get_mut((code as usize).saturating_sub(1))
 }
 
@@ -119,10 +119,14 @@ pub fn note_parent(types: &mut Vec<TypeUse>, code: u8) {
     }
 }
 
-fn note_chain(types: &mut Vec<TypeUse>, code: u8, chain: Chain) {
+/// Counts a chain of segments of a type that begins at an address.
+fn note_chain(types: &mut Vec<TypeUse>, code: u8, first: u32, chain: Chain) {
     if let Some(own) = type_at(types, code) {
         own.chains = own.chains.saturating_add(1);
-        own.longest = own.longest.max(chain.length);
+        if chain.length > own.longest {
+            own.longest = chain.length;
+            own.longest_first = first;
+        }
         if chain.loops {
             own.looping = own.looping.saturating_add(1);
         }
@@ -139,7 +143,7 @@ fn count_from(twins: &mut Vec<Twin>, types: &mut Vec<TypeUse>, place: usize, fir
         return;
     }
     let chain = walk(twins, place);
-    note_chain(types, twin.code, chain);
+    note_chain(types, twin.code, twin.address, chain);
 }
 
 /// Walks a chain to its end, or to a segment that is passed already.

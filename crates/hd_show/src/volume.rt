@@ -6,6 +6,7 @@ use crate::ink::Ink;
 use crate::survey::{BlockUse, Kind, Survey, Tally, TypeBytes};
 use crate::text::{digits, name_text, share, tenths};
 use crate::tree::Order;
+use crate::warnings::put_warnings;
 use hd_dbd::Dbd;
 use std::io::{self, Write};
 
@@ -13,7 +14,7 @@ use std::io::{self, Write};
 const FILLS: &[u8] = b".,:-=+*#%@";
 
 /// Draws a volume that was surveyed: what its header says, its blocks by kind, a picture of the blocks in order, its segments by
-/// type, and what is damaged.
+/// type, what is damaged, and what asks for an unload and a reload.
 pub fn draw_volume<W: Write>(survey: &Survey, dbd: &Dbd, out: &mut W) -> io::Result<()> {
     let mut ink = Ink::new(out);
     put_title(survey, dbd, &mut ink);
@@ -21,6 +22,7 @@ pub fn draw_volume<W: Write>(survey: &Survey, dbd: &Dbd, out: &mut W) -> io::Res
     put_picture(survey, &mut ink);
     put_types(survey, dbd, &mut ink);
     put_damage(survey, dbd, &mut ink);
+    put_warnings(survey, dbd, &mut ink);
     ink.finish()
 }
 

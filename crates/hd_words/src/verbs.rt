@@ -1,7 +1,26 @@
+/// What a command asks for.
+#[derive(Clone, Copy)]
+pub enum Asks {
+    Deck,
+    Serve,
+    Check,
+    Recover,
+    Unload,
+    Copy,
+    Salvage,
+    Reload,
+    Show,
+    Rows,
+    Stream,
+    Operands,
+    Explain,
+}
+
 /// A command that stands behind the program's name.
 #[derive(Clone, Copy)]
 pub struct Verb {
     pub name: &'static str,
+    pub asks: Asks,
     /// What the command does, as the help says it.
     pub about: &'static str,
     /// The words that may follow it, in the order of the help.
@@ -30,6 +49,8 @@ pub enum Kind {
     Behind(&'static str, &'static str, Option<&'static str>),
     /// A number of blocks behind an option, under the name that the help has for it.
     BlocksBehind(&'static str, &'static str),
+    /// A number of calls behind an option, under the name that the help has for it.
+    CallsBehind(&'static str, &'static str),
     /// An option that stands alone.
     Flag(&'static str),
 }
@@ -39,6 +60,9 @@ pub const LEAST_BLOCKS: i64 = 1;
 
 /// The greatest number of blocks that a word may say.
 pub const MOST_BLOCKS: i64 = 65_536;
+
+/// The greatest number of calls that a word may say.
+pub const MOST_CALLS: i64 = 1_000_000_000;
 
 /// The file with the DBD source that every command over a database reads.
 const DBD: Word = Word {
@@ -75,6 +99,20 @@ const CACHE: Word = Word {
     kind: Kind::BlocksBehind("cache", "BLOCKS"),
 };
 
+/// Behind how many calls of a deck there is a commit.
+const COMMIT: Word = Word {
+    name: "COMMIT",
+    help: "Commit behind every so many calls too, 1 to 1000000000; if it is not given the deck is one unit",
+    kind: Kind::CallsBehind("commit", "CALLS"),
+};
+
+/// That what a deck expects of its calls is compared.
+const EXPECT: Word = Word {
+    name: "EXPECT",
+    help: "Compare what the calls answer with what the deck expects, as a comment * expect GE behind a call says it",
+    kind: Kind::Flag("expect"),
+};
+
 /// That a command ends before what it wrote is on the disk.
 const NO_SYNC: Word = Word {
     name: "NOSYNC",
@@ -90,9 +128,14 @@ const COMMIT_ON_REQUEST: Word = Word {
 };
 
 /// The commands, in the order of the help.
-pub const VERBS: &[Verb] = &[
+pub fn verbs() -> &'static [Verb] {
+    VERBS
+}
+
+const VERBS: &[Verb] = &[
     Verb {
         name: "deck",
+        asks: Asks::Deck,
         about: "Plays a deck of DL/I calls over a volume, which it checks first",
         words: &[
             DBD,
@@ -103,22 +146,27 @@ pub const VERBS: &[Verb] = &[
                 help: "The file with the calls",
                 kind: Kind::Needed,
             },
+            COMMIT,
+            EXPECT,
             CACHE,
             NO_SYNC,
         ],
     },
     Verb {
         name: "serve",
+        asks: Asks::Serve,
         about: "Serves a program's DL/I calls over a volume, which it checks first: they come as frames on standard input",
         words: &[DBD, PSB, CHANGED_VOLUME, COMMIT_ON_REQUEST, CACHE, NO_SYNC],
     },
     Verb {
         name: "check",
+        asks: Asks::Check,
         about: "Says whether a volume is sound, or names its first fault",
         words: &[DBD, VOLUME, CACHE],
     },
     Verb {
         name: "recover",
+        asks: Asks::Recover,
         about: "Copies the commits that stand in a volume's log into the volume, and checks it",
         words: &[
             DBD,
@@ -137,6 +185,7 @@ pub const VERBS: &[Verb] = &[
     },
     Verb {
         name: "unload",
+        asks: Asks::Unload,
         about: "Checks a volume, and writes its unload stream",
         words: &[
             DBD,
@@ -152,6 +201,7 @@ pub const VERBS: &[Verb] = &[
     },
     Verb {
         name: "copy",
+        asks: Asks::Copy,
         about: "Checks a volume, and copies it",
         words: &[
             DBD,
@@ -167,6 +217,7 @@ pub const VERBS: &[Verb] = &[
     },
     Verb {
         name: "salvage",
+        asks: Asks::Salvage,
         about: "Writes an unload stream of what a volume still holds that does not pass a check, and says what is left out",
         words: &[
             DBD,
@@ -176,12 +227,18 @@ pub const VERBS: &[Verb] = &[
                 help: "The unload stream, made where there is none; a file that stands keeps what it has until the whole stream is written",
                 kind: Kind::Needed,
             },
+            Word {
+                name: "ORPHANS",
+                help: "Write what is left out into this file, a line a row: its address, and the row as hd rows writes it",
+                kind: Kind::Behind("orphans", "FILE", None),
+            },
             CACHE,
             NO_SYNC,
         ],
     },
     Verb {
         name: "reload",
+        asks: Asks::Reload,
         about: "Makes a volume of an unload stream",
         words: &[
             DBD,
@@ -206,6 +263,7 @@ pub const VERBS: &[Verb] = &[
     },
     Verb {
         name: "show",
+        asks: Asks::Show,
         about: "Draws the hierarchy that a DBD describes; or a volume, which it checks",
         words: &[
             DBD,
@@ -225,6 +283,7 @@ pub const VERBS: &[Verb] = &[
     },
     Verb {
         name: "rows",
+        asks: Asks::Rows,
         about: "Checks a volume, and writes its segments in hierarchic sequence, a line each",
         words: &[
             DBD,
@@ -239,6 +298,7 @@ pub const VERBS: &[Verb] = &[
     },
     Verb {
         name: "stream",
+        asks: Asks::Stream,
         about: "Makes an unload stream, which hd reload takes, of a text of rows as hd rows writes it",
         words: &[
             DBD,
@@ -262,6 +322,7 @@ pub const VERBS: &[Verb] = &[
     },
     Verb {
         name: "operands",
+        asks: Asks::Operands,
         about: "Lists the operands of a DBD or PSB source, one on a line, for scripts",
         words: &[Word {
             name: "SOURCE",
@@ -271,6 +332,7 @@ pub const VERBS: &[Verb] = &[
     },
     Verb {
         name: "explain",
+        asks: Asks::Explain,
         about: "Says what a fault, status or refusal means; without a word it lists them all",
         words: &[Word {
             name: "WORD",
