@@ -1,5 +1,6 @@
 use crate::beginning::Beginning;
 use crate::ink::Ink;
+use crate::row_advice::advise_row;
 use crate::sights::{Sight, Sighted, VolumeLength};
 use crate::stop::Stop;
 use crate::stream_command::text_of;
@@ -22,9 +23,10 @@ pub fn advise_stop<E: Write>(alloc: Global, stop: &Stop, request: &Request<'_>, 
             advise_source(alloc, stop, Named::Psb, source, request, &mut ink);
         }
         Stop::Deck(_, text, file) => advise_source(alloc, stop, *file, text, request, &mut ink),
-        Stop::Rows(_, line, text) => {
+        Stop::Rows(fault, line, text) => {
             let number = usize::try_from(*line).unwrap_or(usize::MAX);
             put_line(request.name_of(Named::Rows), number, text, &mut ink);
+            advise_row(*fault, &mut ink);
         }
         Stop::File(_, error) | Stop::Beside(_, error) | Stop::Waiting(error) => {
             advise_error(alloc, stop, error, request, &mut ink);
@@ -44,7 +46,7 @@ pub fn advise_stop<E: Write>(alloc: Global, stop: &Stop, request: &Request<'_>, 
             ink.put(": another version of hd wrote it, which can copy it into the volume\n");
         }
         Stop::OverInput | Stop::OneOutput | Stop::Words | Stop::NoType => {}
-        Stop::Table(_, _, _) => {}
+        Stop::Table(fault, _, _) => advise_row(*fault, &mut ink),
         Stop::Frame(_) | Stop::Fields => {}
         Stop::Refused(refusal) => advise(alloc, *refusal, None, request, &mut ink),
     }

@@ -17,6 +17,7 @@ mod operands_command;
 mod orphans;
 mod recover_command;
 mod reload_command;
+mod row_advice;
 mod rows_command;
 mod salvage_command;
 mod sample;
@@ -25,6 +26,7 @@ mod show_command;
 mod sights;
 mod stop;
 mod stream_command;
+mod tables_command;
 mod unload_command;
 mod volume_store;
 

@@ -3,7 +3,7 @@ use clap::{Arg, ArgAction, ArgMatches, Command, Error, value_parser};
 use hd_files::Named;
 use std::alloc::Global;
 
-/// What the words of the command line ask for. All of them but `blocks`, `cache`, `end_commits`, `syncs`, `table`, `is_tables` and `word` are names of files; `cache`
+/// What the words of the command line ask for. All of them but `blocks`, `cache`, `end_commits`, `syncs`, `table`, `is_tables`, `is_typed` and `word` are names of files; `cache`
 /// says how many blocks of the volume are kept in memory, if the words say it, and `syncs` whether to wait until what is written is on the disk.
 #[derive(Clone, Copy)]
 pub enum Request<'a> {
@@ -82,19 +82,23 @@ pub enum Request<'a> {
         cache: Option<u32>,
         syncs: bool,
     },
-    /// The rows of a volume, or those of one type as a table.
+    /// The rows of a volume, or those of one type as a table, or of each in a folder that is named for them; with values by the TYPEs of their fields, or as bytes.
     Rows {
         dbd: &'a str,
         volume: &'a str,
         table: Option<&'a str>,
+        folder: Option<&'a str>,
+        is_typed: bool,
         cache: Option<u32>,
+        syncs: bool,
     },
-    /// An unload stream of a text of rows, or of the tables in a folder.
+    /// An unload stream of a text of rows, or of the tables in a folder, whose values are read by the TYPEs of their fields, or as bytes.
     Stream {
         dbd: &'a str,
         rows: &'a str,
         out: &'a str,
         is_tables: bool,
+        is_typed: bool,
         syncs: bool,
     },
     /// The operands of a source.
@@ -141,6 +145,7 @@ impl<'a> Request<'a> {
             (Request::Show { picture, .. }, Named::Picture) => picture.unwrap_or(""),
             (Request::Rows { dbd, .. }, Named::Dbd) => dbd,
             (Request::Rows { volume, .. }, Named::Volume) => volume,
+            (Request::Rows { folder, .. }, Named::Out) => folder.unwrap_or(""),
             (Request::Stream { dbd, .. }, Named::Dbd) => dbd,
             (Request::Stream { rows, .. }, Named::Rows) => rows,
             (Request::Stream { out, .. }, Named::Out) => out,
@@ -210,6 +215,7 @@ fn request_of<'a>(matches: &ArgMatches<'a>) -> Request<'a> {
             rows: given.get_str("IN").unwrap_or(""),
             out: given.get_str("OUT").unwrap_or(""),
             is_tables: given.get_flag("TABLES"),
+            is_typed: given.get_flag("TYPED"),
             syncs,
         };
     }
@@ -229,7 +235,10 @@ fn request_of<'a>(matches: &ArgMatches<'a>) -> Request<'a> {
             dbd,
             volume,
             table: given.get_str("TYPE"),
+            folder: given.get_str("FOLDER"),
+            is_typed: given.get_flag("TYPED"),
             cache,
+            syncs,
         };
     }
     if name == "deck" {
@@ -322,6 +331,9 @@ fn arg_of<'a>(alloc: Global, word: &Word) -> Result<Arg<'a>, Error> {
         Kind::Behind(long, shown, None) => Ok(arg.long(long).value_name(shown)),
         Kind::Behind(long, shown, Some(other)) => {
             Ok(arg.long(long).value_name(shown).requires_arg(other)?)
+        }
+        Kind::BehindAlone(long, shown, other) => {
+            Ok(arg.long(long).value_name(shown).conflicts_with(other)?)
         }
         Kind::BlocksBehind(long, shown) => Ok(blocks(arg.long(long).value_name(shown))),
         Kind::CallsBehind(long, shown) => Ok(calls(arg.long(long).value_name(shown))),
