@@ -1,6 +1,6 @@
 -- What a play with commits among its calls comes to, in a cache, in the store below it, and behind a last commit.
 use Rattle.std.proofs.Common.{◌≡◌, ◌<◌, ◌≤◌, ◌⊎◌, ℕ, List, [], ◌∷◌, ◌++◌, length, take, Bool, true, false, IsTrue, Result, Ok, Err, Some, Option, refl, inl, inr, sym, ◌∙◌, ap, subst, arith}
-use Rattle.std.specs.Prelude.{OnOk, OnErr, IfOk, IfErr}
+use Rattle.std.specs.Prelude.{OnOk, OnErr, IfOk, IfErr, unwrap_or}
 use Rattle.std.proofs.lemmas.List.{append-nil, length-append, take_at}
 use Rattle.hd_dbd.specs.declared.answer.Refused.{Refused}
 use Rattle.hd_dbd.specs.Types.{View}
@@ -91,6 +91,14 @@ commits-until d pcbs store left requests (run.Open fault) says = inl says.0
 commits-until d pcbs store left requests run.Memory says = inl says.0
 commits-until d pcbs store left requests run.Device says = says
 commits-until d pcbs store left requests run.Write says = inr (broken_part d pcbs store left requests says)
+
+-- a refusal that is named by two names has one
+pub same-refusal : (named : Option Refusal) (r s : Refusal) → named ≡ Some r → named ≡ Some s → r ≡ s
+same-refusal named r s is also = ap (λ (o : Option Refusal). unwrap_or o r) (sym is ∙ also)
+
+-- what is said of an Err is so of the one that a call answers
+pub if-err : {A B : Type 0} (P : B → Type 0) (result : Result A B) (e : B) → result ≡ Err e → IfErr result P → P e
+if-err P result e is holds = subst (λ r. IfErr r P) is holds
 
 -- ---- from a cache to the store below
 

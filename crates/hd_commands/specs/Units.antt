@@ -7,10 +7,34 @@ use Rattle.hd_dbd.specs.Hierarchy.{Database}
 use Rattle.hd_stores.specs.Stores.{Committed, CountsDevice, StaysSound}
 use Rattle.hd_session.specs.Turns.{Turn}
 use Rattle.hd_session.specs.Requests.{Request, commit}
-use Rattle.hd_deck.specs.Commits.{Stored, requests_from, IsDoneUntilFailure}
+use Rattle.hd_deck.specs.StepText.{StepText}
+use Rattle.hd_deck.specs.Runs.{turns_of}
+use Rattle.hd_deck.specs.Commits.{Stored, stored_in, requests_from, IsDoneUntilFailure, IsRunDone, IsDoneInPart, IsBrokenInPart}
 use Rattle.hd_journal.specs.Journals.{IsCommitted}
 
--- ---- the steps of a play
+-- ---- a play over a store
+
+-- the calls of a deck, with a commit behind every so many of them where that is wanted
+abbrev pub deck_requests : Option ℕ → List StepText → List Request
+deck_requests every steps = requests_from every 1 (turns_of steps)
+
+-- Over a sound store all calls of the steps were made, with the commits among them, their lines were printed, and so many of them found no memory.
+abbrev pub PlaysWithCommits : {S : Type 0} → (S → Bool) → (S → List ℕ) → (S → Committed) → Database → List View → Option ℕ → List StepText → S → S → Option (List ℕ) → Option (List ℕ) → ℕ → Type 0
+PlaysWithCommits is_sound contents committed d pcbs every steps old new before after memory =
+    IsTrue (is_sound old) → IsRunDone d pcbs (stored_in contents committed old) (deck_requests every steps) before after memory (stored_in contents committed new)
+
+-- over a store that was sound, and still is, the first of them were carried out, however many
+abbrev pub PlaysInPart : {S : Type 0} → (S → Bool) → (S → List ℕ) → (S → Committed) → Database → List View → Option ℕ → List StepText → S → S → Type 0
+PlaysInPart is_sound contents committed d pcbs every steps old new =
+    IsTrue (is_sound old) → IsTrue (is_sound new) → IsDoneInPart d pcbs (stored_in contents committed old) (deck_requests every steps) (stored_in contents committed new)
+
+-- nothing was added to the commits of a sound store, or what the first of them do, up to an access that failed, if one did
+abbrev pub AddsCommits : {S : Type 0} → (S → Bool) → (S → List ℕ) → (S → Committed) → Database → List View → Option ℕ → List StepText → S → S → Type 0
+AddsCommits is_sound contents committed d pcbs every steps old new =
+    IsTrue (is_sound old)
+    → (committed new ≡ committed old) ⊎ IsBrokenInPart d pcbs (stored_in contents committed old) (deck_requests every steps) (stored_in contents committed new)
+
+-- ---- behind a play
 
 -- All that a cache had has reached the store below, or an access failed.
 pub record IsWritten (result : Result Unit Refused) (is_sound : Bool) (failures : ℕ) (contents : List ℕ) (new_is_sound : Bool) (new_failures : ℕ) (new_contents : List ℕ) : Type 0 where
@@ -29,9 +53,14 @@ MayCommit wanted is_sound contents old new = (new ≡ old) ⊎ (wanted ≡ true)
 
 -- ---- the unit
 
--- what a deck asks for: its calls, with a commit behind every so many of them where that is wanted, and one behind the last
+-- what a deck asks for as a unit: its calls, with a commit behind every so many of them where that is wanted, and one behind the last
 abbrev pub unit_requests : Option ℕ → List Turn → List Request
 unit_requests every turns = requests_from every 1 turns ++ commit ∷ []
+
+-- over a sound store all that was carried out, and the lines of the calls were printed, so many of which found no memory
+abbrev pub PlaysUnit : {S : Type 0} → (S → Bool) → (S → List ℕ) → (S → Committed) → Database → List View → Option ℕ → List StepText → S → S → Option (List ℕ) → Option (List ℕ) → ℕ → Type 0
+PlaysUnit is_sound contents committed d pcbs every steps old new before after memory =
+    IsTrue (is_sound old) → IsRunDone d pcbs (stored_in contents committed old) (unit_requests every (turns_of steps)) before after memory (stored_in contents committed new)
 
 -- A deck was played in part: the first of its calls, with the commits among them, were carried out, and, unless an access failed, a commit behind them; where
 -- one failed that was of a commit, a crash may leave the image behind them too.

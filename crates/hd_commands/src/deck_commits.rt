@@ -1,9 +1,8 @@
-ghost use Rattle.std.specs.Prelude.{◌≡◌, ◌≢◌, ◌^◌, ◌≤◌, ◌⊎◌, length, All, IsTrue, Some, IfOk, IfErr, OnOk};
+ghost use Rattle.std.specs.Prelude.{◌≡◌, ◌≢◌, ◌^◌, ◌≤◌, length, All, Some, IfOk, IfErr, OnOk};
 ghost use Rattle.hd_dbd.specs.ProgramRules.{type_names};
 ghost use Rattle.hd_deck.specs.StepText.{StepFits};
-ghost use Rattle.hd_deck.specs.Runs.{turns_of};
-ghost use Rattle.hd_deck.specs.Commits.{stored_in, requests_from, IsRunDone, IsDoneInPart, IsBrokenInPart};
 ghost use Rattle.hd_commands.specs.Commands.{IsRefused};
+ghost use Rattle.hd_commands.specs.Units.{PlaysWithCommits, PlaysInPart, AddsCommits};
 ghost use Rattle.hd_commands.specs.Plays.{PlaySays, FailsOrStays};
 
 use crate::ended::{Ended, refuse};
@@ -29,11 +28,11 @@ fn commit_and_print<S: CommitStore, O: Write>(
     requires matches { psb.now.made_for ≡ type_names dbd.now.types }
     requires steps { All (StepFits (length psb.now.pcbs)) steps.now }
     requires count { length steps.now ≤ 2 ^ 30 }
-    ensures played { IfOk result.1 (λ memory. IsTrue (S.is_sound store) → IsRunDone dbd.now psb.now.pcbs (stored_in S.contents S.committed store) (requests_from every 1 (turns_of steps.now)) (O.contents out.old) (O.contents out.new) memory (stored_in S.contents S.committed result.0)) }
+    ensures played { IfOk result.1 (PlaysWithCommits S.is_sound S.contents S.committed dbd.now psb.now.pcbs every steps.now store result.0 (O.contents out.old) (O.contents out.new)) }
     ensures failures { OnOk result.1 (S.failures result.0 ≡ S.failures store) }
     ensures refused { IfErr result.1 (PlaySays S.is_sound S.failures S.contents dbd.now psb.now.pcbs steps.now store result.0) }
-    ensures part { IfErr result.1 (λ e. e ≡ Refusal.Device → IsTrue (S.is_sound store) → IsTrue (S.is_sound result.0) → IsDoneInPart dbd.now psb.now.pcbs (stored_in S.contents S.committed store) (requests_from every 1 (turns_of steps.now)) (stored_in S.contents S.committed result.0)) }
-    ensures commits { IfErr result.1 (λ e. IsTrue (S.is_sound store) → (S.committed result.0 ≡ S.committed store) ⊎ IsBrokenInPart dbd.now psb.now.pcbs (stored_in S.contents S.committed store) (requests_from every 1 (turns_of steps.now)) (stored_in S.contents S.committed result.0)) }
+    ensures part { IfErr result.1 (λ e. e ≡ Refusal.Device → PlaysInPart S.is_sound S.contents S.committed dbd.now psb.now.pcbs every steps.now store result.0) }
+    ensures commits { IfErr result.1 (λ e. AddsCommits S.is_sound S.contents S.committed dbd.now psb.now.pcbs every steps.now store result.0) }
     ensures silent { IfErr result.1 (λ e. e ≢ Refusal.Device → out.new ≡ out.old) }
     ensures accesses { FailsOrStays S.is_sound S.failures store result.0 }
     ensures size { S.size result.0 ≡ S.size store }
@@ -69,12 +68,12 @@ pub(crate) fn play_and_commit<S: CommitStore, O: Write, E: Write>(
     requires matches { psb.now.made_for ≡ type_names dbd.now.types }
     requires steps { All (StepFits (length psb.now.pcbs)) steps.now }
     requires count { length steps.now ≤ 2 ^ 30 }
-    ensures played { IfOk result.1 (λ memory. IsTrue (S.is_sound store) → IsRunDone dbd.now psb.now.pcbs (stored_in S.contents S.committed store) (requests_from every 1 (turns_of steps.now)) (O.contents out.old) (O.contents out.new) memory (stored_in S.contents S.committed result.0)) }
+    ensures played { IfOk result.1 (PlaysWithCommits S.is_sound S.contents S.committed dbd.now psb.now.pcbs every steps.now store result.0 (O.contents out.old) (O.contents out.new)) }
     ensures failures { OnOk result.1 (S.failures result.0 ≡ S.failures store) }
     ensures quiet { OnOk result.1 (err.new ≡ err.old) }
     ensures refused { IfErr result.1 (λ e. IsRefused (PlaySays S.is_sound S.failures S.contents dbd.now psb.now.pcbs steps.now store result.0) e (E.contents err.old) (E.contents err.new)) }
-    ensures part { IfErr result.1 (λ e. e.refusal ≡ Some Refusal.Device → IsTrue (S.is_sound store) → IsTrue (S.is_sound result.0) → IsDoneInPart dbd.now psb.now.pcbs (stored_in S.contents S.committed store) (requests_from every 1 (turns_of steps.now)) (stored_in S.contents S.committed result.0)) }
-    ensures commits { IsTrue (S.is_sound store) → (S.committed result.0 ≡ S.committed store) ⊎ IsBrokenInPart dbd.now psb.now.pcbs (stored_in S.contents S.committed store) (requests_from every 1 (turns_of steps.now)) (stored_in S.contents S.committed result.0) }
+    ensures part { IfErr result.1 (λ e. e.refusal ≡ Some Refusal.Device → PlaysInPart S.is_sound S.contents S.committed dbd.now psb.now.pcbs every steps.now store result.0) }
+    ensures commits { AddsCommits S.is_sound S.contents S.committed dbd.now psb.now.pcbs every steps.now store result.0 }
     ensures silent { IfErr result.1 (λ e. e.status ≢ 3 → out.new ≡ out.old) }
     ensures accesses { FailsOrStays S.is_sound S.failures store result.0 }
     ensures size { S.size result.0 ≡ S.size store }

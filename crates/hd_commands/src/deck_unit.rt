@@ -1,13 +1,13 @@
-ghost use Rattle.std.specs.Prelude.{◌≡◌, ◌≢◌, ◌^◌, ◌<◌, ◌≤◌, ◌⊎◌, length, All, IsTrue, true, false, Some, IfOk, IfErr, OnOk, OnErr};
+ghost use Rattle.std.specs.Prelude.{◌≡◌, ◌≢◌, ◌^◌, ◌<◌, ◌≤◌, length, All, IsTrue, true, false, Some, IfOk, IfErr, OnOk, OnErr};
 ghost use Rattle.hd_dbd.specs.ProgramRules.{type_names};
 ghost use Rattle.hd_deck.specs.StepText.{StepFits};
 ghost use Rattle.hd_dbd.specs.Refusals.{OnlyDevice};
 ghost use Rattle.hd_stores.specs.Stores.{IsCommit, CountsDevice, StaysSound};
 ghost use Rattle.hd_journal.specs.Framed.{IsSafe};
 ghost use Rattle.hd_deck.specs.Runs.{turns_of};
-ghost use Rattle.hd_deck.specs.Commits.{stored_in, requests_from, IsRunDone, IsDoneInPart, IsBrokenInPart};
+ghost use Rattle.hd_deck.specs.Commits.{stored_in};
 ghost use Rattle.hd_commands.specs.Commands.{IsRefused};
-ghost use Rattle.hd_commands.specs.Units.{MayCommit, IsWritten, unit_requests, UnitCommits};
+ghost use Rattle.hd_commands.specs.Units.{PlaysWithCommits, PlaysInPart, AddsCommits, IsWritten, MayCommit, PlaysUnit, UnitCommits};
 ghost use Rattle.hd_commands.specs.Plays.{UnitSays, FailsOrStays};
 
 use crate::deck_commits::play_and_commit;
@@ -104,10 +104,10 @@ fn play_through<D: Disk, L: Ledger, P: Progress, O: Write, E: Write>(
     requires steps { All (StepFits (length psb.now.pcbs)) steps.now }
     requires count { length steps.now ≤ 2 ^ 30 }
     requires cache { (0 < cache) × (cache ≤ 65536) }
-    ensures played { IfOk result.1 (λ memory. OnOk result.2 (IsTrue store.is_sound → IsRunDone dbd.now psb.now.pcbs (stored_in (λ s. s.contents) (λ s. s.committed) store) (requests_from every 1 (turns_of steps.now)) (O.contents out.old) (O.contents out.new) memory (stored_in (λ s. s.contents) (λ s. s.committed) result.0))) }
+    ensures played { IfOk result.1 (λ m. OnOk result.2 (PlaysWithCommits (λ s. s.is_sound) (λ s. s.contents) (λ s. s.committed) dbd.now psb.now.pcbs every steps.now store result.0 (O.contents out.old) (O.contents out.new) m)) }
     ensures refused { IfErr result.1 (λ e. IsRefused (UnitSays (λ s. s.is_sound) (λ s. s.failures) (λ s. s.contents) dbd.now psb.now.pcbs steps.now store result.0) e (E.contents err.old) (E.contents err.new)) }
-    ensures part { IfErr result.1 (λ e. OnOk result.2 (e.refusal ≡ Some Refusal.Device → IsTrue store.is_sound → IsTrue result.0.is_sound → IsDoneInPart dbd.now psb.now.pcbs (stored_in (λ s. s.contents) (λ s. s.committed) store) (requests_from every 1 (turns_of steps.now)) (stored_in (λ s. s.contents) (λ s. s.committed) result.0))) }
-    ensures commits { IsTrue store.is_sound → (result.0.committed ≡ store.committed) ⊎ IsBrokenInPart dbd.now psb.now.pcbs (stored_in (λ s. s.contents) (λ s. s.committed) store) (requests_from every 1 (turns_of steps.now)) (stored_in (λ s. s.contents) (λ s. s.committed) result.0) }
+    ensures part { IfErr result.1 (λ e. OnOk result.2 (e.refusal ≡ Some Refusal.Device → PlaysInPart (λ s. s.is_sound) (λ s. s.contents) (λ s. s.committed) dbd.now psb.now.pcbs every steps.now store result.0)) }
+    ensures commits { AddsCommits (λ s. s.is_sound) (λ s. s.contents) (λ s. s.committed) dbd.now psb.now.pcbs every steps.now store result.0 }
     ensures unwritten { OnErr result.2 ((store.failures < result.0.failures) × (result.0.is_sound ≡ false)) }
     ensures accesses { FailsOrStays (λ s. s.is_sound) (λ s. s.failures) store result.0 }
     ensures failures { OnOk result.2 (OnOk result.1 (result.0.failures ≡ store.failures)) }
@@ -150,7 +150,7 @@ pub fn play_unit<D: Disk, L: Ledger, P: Progress, O: Write, E: Write>(
     requires cache { (0 < cache) × (cache ≤ 65536) }
     ensures crash { IsTrue D.is_honest → IsSafe result.0.committed (D.state result.0.disk) }
     ensures commits { IsTrue store.is_sound → IsTrue D.is_honest → UnitCommits dbd.now psb.now.pcbs (stored_in (λ s. s.contents) (λ s. s.committed) store) every (turns_of steps.now) result.0.committed }
-    ensures played { IfOk result.1 (λ memory. IsTrue store.is_sound → IsRunDone dbd.now psb.now.pcbs (stored_in (λ s. s.contents) (λ s. s.committed) store) (unit_requests every (turns_of steps.now)) (O.contents out.old) (O.contents out.new) memory (stored_in (λ s. s.contents) (λ s. s.committed) result.0)) }
+    ensures played { IfOk result.1 (PlaysUnit (λ s. s.is_sound) (λ s. s.contents) (λ s. s.committed) dbd.now psb.now.pcbs every steps.now store result.0 (O.contents out.old) (O.contents out.new)) }
     ensures refused { IfErr result.1 (λ e. IsRefused (UnitSays (λ s. s.is_sound) (λ s. s.failures) (λ s. s.contents) dbd.now psb.now.pcbs steps.now store result.0) e (E.contents err.old) (E.contents err.new)) }
     ensures accesses { FailsOrStays (λ s. s.is_sound) (λ s. s.failures) store result.0 }
     ensures failures { OnOk result.1 (result.0.failures ≡ store.failures) }

@@ -1,9 +1,9 @@
 -- The entries of the table as plain texts, and how they are written.
-use Rattle.std.specs.Prelude.{ℕ, List, ◌++◌, Option, find, map, drop, length, codes}
+use Rattle.std.specs.Prelude.{ℕ, List, ◌++◌, Option, find, map, drop, length, min, codes}
 use Rattle.std.specs.Str.{str_eq_ignore_ascii_case}
 use Rattle.hd_explain.specs.declared.entry.Entry.{Entry}
 use Rattle.hd_explain.specs.declared.entry.Kind.{Kind}
-use Rattle.hd_explain.specs.declared.entry.Kind.TheVariants.{VolumeFault, SourceFault, DeckFault, StreamFault, Status, Refusal, ExitStatus}
+use Rattle.hd_explain.specs.declared.entry.Kind.TheVariants.{VolumeFault, SourceFault, DeckFault, StreamFault, Status, Refusal, ExitStatus, Line}
 
 -- an entry with its texts as they are read
 abbrev pub plain : {T : Type 0} → Entry T → (T → List ℕ) → Entry (List ℕ)
@@ -26,12 +26,17 @@ name_of StreamFault = codes "a fault of an unload stream"
 name_of Status = codes "a status code"
 name_of Refusal = codes "a refusal"
 name_of ExitStatus = codes "an exit status"
+name_of Line = codes "a line of hd"
 
 -- `GE, a status code: no such segment`, and behind it the text
 abbrev pub entry_text : Entry (List ℕ) → List ℕ
 entry_text entry =
     (entry.word ++ codes ", " ++ name_of entry.kind) ++ (codes ": " ++ entry.summary ++ codes "\n") ++ (entry.text ++ codes "\n")
 
--- a word in eight places, and its summary
+-- the blanks behind a word, up to eight places, and two at least
+abbrev pub blanks_behind : List ℕ → List ℕ
+blanks_behind word = drop (min (length word) 6) (codes "        ")
+
+-- a word in its places, and its summary
 abbrev pub list_line : Entry (List ℕ) → List ℕ
-list_line entry = (entry.word ++ drop (length entry.word) (codes "        ")) ++ (entry.summary ++ codes "\n")
+list_line entry = (entry.word ++ blanks_behind entry.word) ++ (entry.summary ++ codes "\n")

@@ -6,6 +6,7 @@ use Rattle.hd_explain.specs.declared.sources.TheConstants.{SOURCE_FAULTS}
 use Rattle.hd_explain.specs.declared.decks.TheConstants.{DECK_FAULTS, STREAM_FAULTS}
 use Rattle.hd_explain.specs.declared.calls.TheConstants.{STATUS_CODES, REFUSALS}
 use Rattle.hd_explain.specs.declared.exits.TheConstants.{EXIT_STATUSES}
+use Rattle.hd_explain.specs.declared.lines.TheConstants.{LINES}
 use Rattle.hd_explain.specs.Entries.{plains}
 
 -- all entries, in the order of the tables
@@ -18,3 +19,4 @@ all_entries =
     ++ plains STATUS_CODES.now (λ text. text.now)
     ++ plains REFUSALS.now (λ text. text.now)
     ++ plains EXIT_STATUSES.now (λ text. text.now)
+    ++ plains LINES.now (λ text. text.now)

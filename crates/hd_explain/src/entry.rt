@@ -11,6 +11,7 @@ pub enum Kind {
     Status,
     Refusal,
     ExitStatus,
+    Line,
 }
 
 /// A word and its meaning: what it is, a summary of one line, and a text of one to five sentences, in lines of at most 100 characters that
@@ -39,6 +40,7 @@ impl Kind {
             Kind::Status => "a status code",
             Kind::Refusal => "a refusal",
             Kind::ExitStatus => "an exit status",
+            Kind::Line => "a line of hd",
         }
     }
 }

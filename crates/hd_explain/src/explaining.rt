@@ -7,11 +7,12 @@ use crate::calls::{REFUSALS, STATUS_CODES};
 use crate::decks::{DECK_FAULTS, STREAM_FAULTS};
 use crate::entry::Explanation;
 use crate::exits::EXIT_STATUSES;
+use crate::lines::LINES;
 use crate::sources::SOURCE_FAULTS;
 use crate::table::entry_in;
 use crate::volumes::VOLUME_FAULTS;
 
-/// The entry of a word, in upper or lower case; none where nothing is known of it.
+/// The entry of a word, or of the words of a line, in upper or lower case; none where nothing is known of it.
 pub fn explain(word: &str) -> Option<&'static Explanation>
     ensures { option_map (λ entry. plain entry.now (λ text. text.now)) result ≡ entry_of word.now all_entries }
 {
@@ -21,7 +22,8 @@ pub fn explain(word: &str) -> Option<&'static Explanation>
     let found = entry_or(found, STREAM_FAULTS, word);
     let found = entry_or(found, STATUS_CODES, word);
     let found = entry_or(found, REFUSALS, word);
-    entry_or(found, EXIT_STATUSES, word)
+    let found = entry_or(found, EXIT_STATUSES, word);
+    entry_or(found, LINES, word)
 }
 
 /// What was found before, or else the entry of a word in a table.

@@ -1,4 +1,4 @@
-//! The words that `hd` prints, faults, statuses and refusals, each with its meaning in plain sentences.
+//! The words that `hd` prints, faults, statuses and refusals, and its lines, each with its meaning in plain sentences.
 #![tactic(auto)]
 
 mod calls;
@@ -6,6 +6,7 @@ mod decks;
 mod entry;
 mod exits;
 mod explaining;
+mod lines;
 mod sources;
 mod table;
 mod volumes;
@@ -16,6 +17,7 @@ pub use decks::{DECK_FAULTS, STREAM_FAULTS};
 pub use entry::{Entry, Explanation, Kind};
 pub use exits::EXIT_STATUSES;
 pub use explaining::explain;
+pub use lines::LINES;
 pub use sources::SOURCE_FAULTS;
 pub use table::{entry_in, place_of};
 pub use volumes::VOLUME_FAULTS;

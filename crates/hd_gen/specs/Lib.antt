@@ -5,3 +5,4 @@ pub mod Operands
 pub mod Drafts
 pub mod Sources
 pub mod Laws
+pub mod Refused

@@ -1,6 +1,7 @@
 ghost use Rattle.std.specs.Prelude.{◌≡◌, ◌∷◌, [], Ok, Err, Some, bytes_eq, take, drop};
 ghost use Rattle.std.specs.List.{list_any};
 ghost use Rattle.hd_gen.specs.Operands.{nothing_given, with_field, with_value, fault_at, is_given, with_operand, given_from, given};
+ghost use Rattle.hd_gen.specs.Refused.{count_read};
 ghost use Rattle.hd_gen.specs.Shapes.{value_of};
 ghost use Rattle.hd_gen.specs.Tables.{main_keyword};
 ghost use Rattle.hd_gen.specs.Values.{only_if, value_in};
@@ -232,4 +233,23 @@ pub(crate) fn read_operands<'a>(
         given = with_operand(context, operation, line, &operands[..place], given, operand)?;
     }
     Ok(given)
+}
+
+/// How many operands of a statement are read, from left to right, before the first that is refused; all where none is.
+pub(crate) fn count_read(
+    context: &Context,
+    operation: Operation,
+    line: usize,
+    operands: &[Operand],
+) -> usize
+    ensures { result ≡ count_read context.now operation line operands.now }
+{
+    let mut given = nothing_given();
+    for (place, operand) in operands.iter().enumerate() {
+        match with_operand(context, operation, line, &operands[..place], given, operand) {
+            Ok(next) => given = next,
+            Err(_) => return place,
+        }
+    }
+    operands.len()
 }

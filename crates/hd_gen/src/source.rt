@@ -74,7 +74,7 @@ fn draft_of(alloc: Global, kind: &Kind, bytes: &[u8]) -> Result<Draft, GenFault>
 }
 
 /// The statements of a source, or the first fault of its lines.
-fn statements_in(alloc: Global, bytes: &[u8]) -> Result<Vec<Statement>, GenFault>
+pub(crate) fn statements_in(alloc: Global, bytes: &[u8]) -> Result<Vec<Statement>, GenFault>
     ensures statements { IfOk result (λ v. statements_in bytes.now ≡ Ok v.items) }
     ensures fault { IfErr result (λ e. e ≢ GenFault.Memory → statements_in bytes.now ≡ Err e) }
 {
@@ -124,7 +124,7 @@ fn read_statements(
 }
 
 /// One statement more.
-fn with_next(
+pub(crate) fn with_next(
     alloc: Global,
     kind: &Kind,
     progress: Progress,
@@ -165,7 +165,7 @@ fn placed(
 }
 
 /// The statement of an operation, if the source has it.
-fn operation_of(kind: &Kind, word: &[u8]) -> Option<Operation>
+pub(crate) fn operation_of(kind: &Kind, word: &[u8]) -> Option<Operation>
     ensures { result ≡ operation_of kind.now word.now }
 {
     match kind {
@@ -175,7 +175,7 @@ fn operation_of(kind: &Kind, word: &[u8]) -> Option<Operation>
 }
 
 /// Whether this is an LCHILD that does not stand at the root.
-fn is_lchild_below_root(operation: Operation, draft: &Draft) -> bool
+pub(crate) fn is_lchild_below_root(operation: Operation, draft: &Draft) -> bool
     ensures { result ≡ is_lchild_below_root operation draft.now }
 {
     match operation {
@@ -185,7 +185,7 @@ fn is_lchild_below_root(operation: Operation, draft: &Draft) -> bool
 }
 
 /// Where a statement stands.
-fn context_of(kind: &Kind, draft: &Draft) -> Context
+pub(crate) fn context_of(kind: &Kind, draft: &Draft) -> Context
     ensures { result ≡ context_of kind.now draft.now }
 {
     Context {

@@ -6,3 +6,4 @@ pub mod Source
 pub mod Lines
 pub mod Laws
 pub mod Views
+pub mod FaultColumns

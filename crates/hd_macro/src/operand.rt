@@ -38,7 +38,12 @@ pub(crate) fn read_text(
 }
 
 /// Reads one more byte, if it may stand where it stands.
-fn read_byte(alloc: Global, reading: Reading, byte: u8, number: usize) -> Result<Reading, LineFault>
+pub(crate) fn read_byte(
+    alloc: Global,
+    reading: Reading,
+    byte: u8,
+    number: usize,
+) -> Result<Reading, LineFault>
     ensures read { IfOk result (λ r. read_at (place_of reading.place reading.depth) (reading_of reading) byte ≡ Some (reading_of r)) }
     ensures fault { IfErr result (λ e. e ≢ LineFault.Memory → (e ≡ LineFault.M4 number) × (read_at (place_of reading.place reading.depth) (reading_of reading) byte ≡ None)) }
 {

@@ -1,32 +1,78 @@
 use crate::beginning::Beginning;
+use crate::dbd_source::read_database;
 use crate::ink::Ink;
+use crate::places::line_at;
 use crate::row_advice::advise_row;
-use crate::sights::{Sight, Sighted, VolumeLength};
-use crate::stop::Stop;
+use crate::sights::{Sight, Sighted, StreamHead, VolumeLength, written_file};
+use crate::source_advice::{SourceText, advise_source};
+use crate::stop::{Stop, TableFault};
 use crate::stream_command::text_of;
 use hd_commands::Refusal;
+use hd_dbd::Dbd;
+use hd_deck::DeckFault;
 use hd_explain::{Explanation, explain};
 use hd_files::{ENDING as NEW_ENDING, LOG_ENDING, Named};
+use hd_gen::GenFault;
+use hd_rows::RowFault;
 use hd_words::Request;
 use std::alloc::Global;
+use std::fs::File;
 use std::io::{self, ErrorKind, Write};
+use std::rt::Files;
+
+/// The most blocks that a volume may have.
+const MOST_BLOCKS: u32 = 65_536;
+
+/// The version of unload streams.
+const STREAM_VERSION: u16 = 1;
 
 /// Writes the lines that say more of why the program stops: the file, and what the system said of it, or the line of a text that is refused;
 /// and what the fault's word means.
-pub fn advise_stop<E: Write>(alloc: Global, stop: &Stop, request: &Request<'_>, err: &mut E) {
+pub fn advise_stop<R: Files<File = File>, E: Write>(
+    rt: &R,
+    alloc: Global,
+    stop: &Stop,
+    request: &Request<'_>,
+    err: &mut E,
+) {
     let mut ink = Ink::new(err);
     match stop {
-        Stop::Database(_, source) | Stop::Source(_, source) => {
-            advise_source(alloc, stop, Named::Dbd, source, request, &mut ink);
+        Stop::Database(fault, source) => {
+            let text = SourceText {
+                file: Named::Dbd,
+                name: request.name_of(Named::Dbd),
+                source,
+            };
+            advise_source(alloc, *fault, text, None, &mut ink);
         }
-        Stop::Program(_, source) => {
-            advise_source(alloc, stop, Named::Psb, source, request, &mut ink);
+        Stop::Source(fault, source) => {
+            let text = SourceText {
+                file: Named::Dbd,
+                name: request.name_of(Named::Dbd),
+                source,
+            };
+            advise_source(alloc, GenFault::Line(*fault), text, None, &mut ink);
         }
-        Stop::Deck(_, text, file) => advise_source(alloc, stop, *file, text, request, &mut ink),
+        Stop::Program(fault, source) => {
+            let text = SourceText {
+                file: Named::Psb,
+                name: request.name_of(Named::Psb),
+                source,
+            };
+            let dbd = database_of(rt, alloc, request);
+            advise_source(alloc, *fault, text, dbd.as_ref(), &mut ink);
+        }
+        Stop::Deck(fault, text, file) => {
+            advise_deck(alloc, *fault, request.name_of(*file), text, &mut ink);
+        }
         Stop::Rows(fault, line, text) => {
             let number = usize::try_from(*line).unwrap_or(usize::MAX);
             put_line(request.name_of(Named::Rows), number, text, &mut ink);
             advise_row(*fault, &mut ink);
+        }
+        Stop::File(Named::Volume, error) => {
+            let file = written_file(rt, alloc, request, error);
+            advise_error(alloc, &Stop::File(file, *error), error, request, &mut ink);
         }
         Stop::File(_, error) | Stop::Beside(_, error) | Stop::Waiting(error) => {
             advise_error(alloc, stop, error, request, &mut ink);
@@ -34,6 +80,10 @@ pub fn advise_stop<E: Write>(alloc: Global, stop: &Stop, request: &Request<'_>, 
         Stop::InUse(file) => {
             ink.name(request.name_of(*file));
             ink.put(": another program uses it; try again when that one has ended\n");
+        }
+        Stop::OneOutput => {
+            ink.name(request.name_of(Named::Rows));
+            ink.put(": OUT is this file too\n");
         }
         Stop::OtherVolume => {
             put_file(request, Named::Log, &mut ink);
@@ -45,8 +95,8 @@ pub fn advise_stop<E: Write>(alloc: Global, stop: &Stop, request: &Request<'_>, 
             put_file(request, Named::Log, &mut ink);
             ink.put(": another version of hd wrote it, which can copy it into the volume\n");
         }
-        Stop::OverInput | Stop::OneOutput | Stop::Words | Stop::NoType => {}
-        Stop::Table(fault, _, _) => advise_row(*fault, &mut ink),
+        Stop::Table(table) => put_table(request.name_of(Named::Rows), table, &mut ink),
+        Stop::OverInput | Stop::Words | Stop::NoType => {}
         Stop::Frame(_) | Stop::Fields => {}
         Stop::Refused(refusal) => advise(alloc, *refusal, None, request, &mut ink),
     }
@@ -81,9 +131,13 @@ fn advise<E: Write>(
     request: &Request<'_>,
     ink: &mut Ink<'_, E>,
 ) {
-    if let Some(Sight::Kind(file, beginning)) = seen {
-        put_kind(request.name_of(*file), *file, *beginning, ink);
-        return;
+    match seen {
+        Some(Sight::Kind(file, beginning)) => {
+            put_kind(request.name_of(*file), *file, *beginning, ink);
+            return;
+        }
+        Some(Sight::Stream(head)) => put_stream(request.name_of(Named::Stream), head, ink),
+        _ => {}
     }
     match refusal {
         Refusal::Fault(fault) => {
@@ -103,27 +157,11 @@ fn advise<E: Write>(
     }
 }
 
-/// The text of the fault for which a source or a deck is refused; none where there is no memory for it.
-fn fault_in(alloc: Global, stop: &Stop) -> Option<String> {
-    match stop {
-        Stop::Database(fault, _) | Stop::Program(fault, _) => format!(in alloc; "{fault}").ok(),
-        Stop::Source(fault, _) => format!(in alloc; "{fault}").ok(),
-        Stop::Deck(fault, _, _) => format!(in alloc; "{fault}").ok(),
-        _ => None,
-    }
-}
-
-/// Writes the lines that say more of a source or a deck that is refused.
-fn advise_source<E: Write>(
-    alloc: Global,
-    stop: &Stop,
-    file: Named,
-    text: &[u8],
-    request: &Request<'_>,
-    ink: &mut Ink<'_, E>,
-) {
-    if let Some(fault) = fault_in(alloc, stop) {
-        put_text(request.name_of(file), file, &fault, text, ink);
+/// The database that a command names, read once more.
+fn database_of<R: Files<File = File>>(rt: &R, alloc: Global, request: &Request<'_>) -> Option<Dbd> {
+    match read_database(rt, alloc, request.name_of(Named::Dbd)) {
+        Ok((dbd, _)) => Some(dbd),
+        Err(_) => None,
     }
 }
 
@@ -191,37 +229,105 @@ fn put_kind<E: Write>(name: &str, file: Named, beginning: Beginning, ink: &mut I
     ink.put("\n");
 }
 
-/// Writes the line of a text that a fault names, and what the fault's word means; or that it is no text but a volume or a stream.
-fn put_text<E: Write>(name: &str, file: Named, fault: &str, text: &[u8], ink: &mut Ink<'_, E>) {
-    let beginning = Beginning::of(text);
-    if let Beginning::Volume | Beginning::Stream = beginning {
-        put_kind(name, file, beginning, ink);
+/// Writes the line of a deck that a fault names, and what the fault's word means; or that it is no deck but a volume or a stream.
+fn advise_deck<E: Write>(
+    alloc: Global,
+    fault: DeckFault,
+    name: &str,
+    text: &[u8],
+    ink: &mut Ink<'_, E>,
+) {
+    if put_other_kind(name, Named::Deck, text, ink) {
         return;
     }
-    let word = word_of(fault);
-    if let Some(number) = line_of(fault) {
+    let Ok(said) = format!(in alloc; "{fault}") else {
+        return;
+    };
+    if let Some(number) = line_of(&said) {
         put_line(name, number, text, ink);
-        if word == "G1" && begins_in_column_1(line_at(text, number)) {
-            ink.put(
-                "  what begins in column 1 is a label: put a blank in front of the operation\n",
-            );
-        }
     }
-    put_word(word, ink);
+    put_word(word_of(&said), ink);
+}
+
+/// Writes that a text is none but a volume or a stream, where it is one.
+pub fn put_other_kind<E: Write>(
+    name: &str,
+    file: Named,
+    text: &[u8],
+    ink: &mut Ink<'_, E>,
+) -> bool {
+    match Beginning::of(text) {
+        Beginning::Volume | Beginning::Stream => {
+            put_kind(name, file, Beginning::of(text), ink);
+            true
+        }
+        Beginning::Text | Beginning::Unknown => false,
+    }
 }
 
 /// Writes a line of a text, behind the name of the text's file and the line's number.
-fn put_line<E: Write>(name: &str, number: usize, text: &[u8], ink: &mut Ink<'_, E>) {
+pub fn put_line<E: Write>(name: &str, number: usize, text: &[u8], ink: &mut Ink<'_, E>) {
+    put_place(name, number, 0, text, ink);
+}
+
+/// Writes a line of a text, behind the name of the text's file, the line's number, and the column of which it tells, 0 for none.
+pub fn put_place<E: Write>(
+    name: &str,
+    number: usize,
+    column: usize,
+    text: &[u8],
+    ink: &mut Ink<'_, E>,
+) {
     ink.name(name);
     ink.put(":");
     ink.number(number as u64);
+    if column > 0 {
+        ink.put(":");
+        ink.number(column as u64);
+    }
     ink.put(": ");
     ink.shown(line_at(text, number));
     ink.put("\n");
 }
 
+/// Writes the line of a table in a folder, the name of its column that is at fault, and the names that it may have.
+fn put_table<E: Write>(folder: &str, table: &TableFault, ink: &mut Ink<'_, E>) {
+    ink.name(folder);
+    ink.put("/");
+    ink.put(&table.name);
+    ink.put(".csv");
+    if !table.text.is_empty() {
+        ink.put(":");
+        ink.number(table.line);
+        ink.put(": ");
+        let number = usize::try_from(table.line).unwrap_or(usize::MAX);
+        ink.shown(line_at(&table.text, number));
+    }
+    ink.put("\n");
+    if !table.column.is_empty() {
+        ink.put("  the column is ");
+        ink.shown(&table.column);
+        ink.put("\n");
+    }
+    put_names(table, ink);
+    advise_row(table.fault, ink);
+}
+
+/// Writes the names that a table may have, or its columns.
+fn put_names<E: Write>(table: &TableFault, ink: &mut Ink<'_, E>) {
+    match table.fault {
+        RowFault::Type => ink.put("  the types of the database are "),
+        RowFault::Part | RowFault::Missing => {
+            ink.put("  the columns that hd rows --csv writes are ");
+        }
+        _ => return,
+    }
+    ink.shown(table.names.trim_ascii_end());
+    ink.put("\n");
+}
+
 /// Writes what a word means, where that is known.
-fn put_word<E: Write>(word: &str, ink: &mut Ink<'_, E>) {
+pub fn put_word<E: Write>(word: &str, ink: &mut Ink<'_, E>) {
     if let Some(entry) = explain(word) {
         put_entry(entry, ink);
         put_more(entry, ink);
@@ -229,7 +335,7 @@ fn put_word<E: Write>(word: &str, ink: &mut Ink<'_, E>) {
 }
 
 /// Writes a word and what it means.
-fn put_entry<E: Write>(entry: &Explanation, ink: &mut Ink<'_, E>) {
+pub fn put_entry<E: Write>(entry: &Explanation, ink: &mut Ink<'_, E>) {
     ink.put("  ");
     ink.put(entry.word);
     ink.put(": ");
@@ -237,7 +343,7 @@ fn put_entry<E: Write>(entry: &Explanation, ink: &mut Ink<'_, E>) {
 }
 
 /// Writes which command says more of a word.
-fn put_more<E: Write>(entry: &Explanation, ink: &mut Ink<'_, E>) {
+pub fn put_more<E: Write>(entry: &Explanation, ink: &mut Ink<'_, E>) {
     ink.put("; hd explain ");
     ink.put(entry.word);
     ink.put(" says more\n");
@@ -252,7 +358,8 @@ fn put_fault<E: Write>(word: &str, seen: Option<&Sight>, ink: &mut Ink<'_, E>) {
     match seen {
         Some(Sight::Segment(segment)) => put_segment(segment, ink),
         Some(Sight::Length(length)) => put_length(*length, ink),
-        Some(Sight::Kind(_, _)) | None => {}
+        Some(Sight::Mark) => ink.put("; the file does not begin with HDVOLUME"),
+        Some(Sight::Kind(_, _) | Sight::Stream(_)) | None => {}
     }
     put_more(entry, ink);
 }
@@ -264,6 +371,7 @@ fn put_length<E: Write>(length: VolumeLength, ink: &mut Ink<'_, E>) {
         blocks,
         size,
         block_size,
+        largest,
     } = length;
     let asked = u64::from(blocks).saturating_mul(u64::from(size));
     if found < u64::from(block_size) {
@@ -285,7 +393,33 @@ fn put_length<E: Write>(length: VolumeLength, ink: &mut Ink<'_, E>) {
         ink.number(asked);
         ink.put(" in all, and the file has ");
         ink.number(found);
+    } else if largest < blocks {
+        ink.put("; the header tells of ");
+        ink.number(u64::from(blocks));
+        ink.put(" blocks, and that it has at most ");
+        ink.number(u64::from(largest));
+    } else if largest > MOST_BLOCKS {
+        ink.put("; the header tells of at most ");
+        ink.number(u64::from(largest));
+        ink.put(" blocks, and a volume may have at most 65536");
     }
+}
+
+/// Writes of which version or database an unload stream is, and which is wanted.
+fn put_stream<E: Write>(name: &str, head: &StreamHead, ink: &mut Ink<'_, E>) {
+    ink.name(name);
+    ink.put(": this is an unload stream of ");
+    if head.version != STREAM_VERSION {
+        ink.put("version ");
+        ink.number(u64::from(head.version));
+        ink.put(", and version 1 is wanted\n");
+        return;
+    }
+    ink.put("the database \"");
+    ink.shown(head.name.trim_ascii_end());
+    ink.put("\", and one of \"");
+    ink.put(text_of(&head.database));
+    ink.put("\" is wanted\n");
 }
 
 /// Writes where a segment stands, and its type and key.
@@ -303,7 +437,7 @@ fn put_segment<E: Write>(seen: &Sighted, ink: &mut Ink<'_, E>) {
 }
 
 /// The word of a text's fault, which stands last, as in `line 10, M4` and `type 1, B6`.
-fn word_of(fault: &str) -> &str {
+pub fn word_of(fault: &str) -> &str {
     match fault.split_once(", ") {
         Some((_, word)) => word,
         None => fault,
@@ -318,21 +452,6 @@ fn line_of(fault: &str) -> Option<usize> {
         return None;
     }
     number.parse::<usize>().ok()
-}
-
-/// The line of a text with a number, from 1, without its end; empty behind the last.
-fn line_at(text: &[u8], number: usize) -> &[u8] {
-    let before = number.saturating_sub(1);
-    match text.split(|byte| *byte == b'\n').skip(before).next() {
-        Some([line @ .., b'\r']) => line,
-        Some(line) => line,
-        None => &[],
-    }
-}
-
-/// Whether a statement's line begins with a label, or with what is taken for one.
-fn begins_in_column_1(line: &[u8]) -> bool {
-    !matches!(line.first(), None | Some(b' ' | b'*'))
 }
 
 /// What the system said of a file, without the number of its error.

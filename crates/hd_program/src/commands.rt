@@ -125,13 +125,19 @@ where
     };
     match (stop, said) {
         (Stop::Refused(Refusal::Device), Some(error)) => {
-            advise_stop(rt.alloc(), &Stop::File(Named::Output, error), request, err)
+            advise_stop(
+                rt,
+                rt.alloc(),
+                &Stop::File(Named::Output, error),
+                request,
+                err,
+            )
         }
         (Stop::Refused(refusal), _) => {
             let seen = see_refused(rt, rt.alloc(), request, refusal);
             advise_refusal(rt.alloc(), refusal, seen.as_ref(), request, err)
         }
-        (stop, _) => advise_stop(rt.alloc(), &stop, request, err),
+        (stop, _) => advise_stop(rt, rt.alloc(), &stop, request, err),
     }
 }
 

@@ -185,11 +185,6 @@ impl<W: Write> Compared<W> {
         self.full
     }
 
-    /// What is expected, with what was answered.
-    pub fn into_expectations(self) -> Expectations {
-        self.expectations
-    }
-
     /// Notes bytes of a line that went out.
     #[inline(always)]
     fn note(&mut self, bytes: &[u8]) {
@@ -229,6 +224,13 @@ impl<W: Write> Compared<W> {
         self.next = self.next.saturating_add(1);
         self.due = call_of(&self.expectations, self.next);
         self.length = 0;
+    }
+}
+
+impl<W: Write + Drop> Compared<W> {
+    /// What is expected, with what was answered.
+    pub fn into_expectations(self) -> Expectations {
+        self.expectations
     }
 }
 

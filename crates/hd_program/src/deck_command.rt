@@ -243,7 +243,7 @@ fn play_store<D: Disk, L: Ledger, P: Progress, O: Write>(
 }
 
 /// Plays a deck over a store, as one unit or with commits on its way. Only when what its calls changed is committed the last of its lines go out.
-fn play_held<D: Disk, L: Ledger, P: Progress, O: Write>(
+fn play_held<D: Disk, L: Ledger, P: Progress, O: Write + Drop>(
     alloc: Global,
     dbd: &Dbd,
     psb: &Psb,

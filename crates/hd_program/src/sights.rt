@@ -6,7 +6,9 @@ use crate::dbd_source::{CACHE, read_database};
 use crate::stop::Stop;
 use hd_commands::Refusal;
 use hd_dbd::{Dbd, Name8};
-use hd_files::{Named, cached, file_blocks, open, open_shared};
+use hd_files::{
+    FileFault, Left, Named, VolumeFiles, cached, file_blocks, of_file, open, open_shared,
+};
 use hd_show::see_segment;
 use hd_stores::{BlockStore, RunStore};
 use hd_unload::RecordFault;
@@ -26,17 +28,31 @@ pub enum Sight {
     Segment(Sighted),
     /// What the file of this word is, which is something else than what is wanted.
     Kind(Named, Beginning),
+    /// The volume's file does not begin as one.
+    Mark,
     /// How long a volume's file is.
     Length(VolumeLength),
+    /// What an unload stream says that it is.
+    Stream(StreamHead),
 }
 
-/// How long a volume's file is, how many blocks of how many bytes its header tells of, and how many bytes a block of the database has.
+/// The version of an unload stream and the name of its database, and that of the database that is wanted.
+#[derive(Clone, Copy)]
+pub struct StreamHead {
+    pub version: u16,
+    pub name: [u8; 8],
+    pub database: Name8,
+}
+
+/// How long a volume's file is, how many blocks of how many bytes its header tells of, at most how many it may have, and how many bytes a block of the
+/// database has.
 #[derive(Clone, Copy)]
 pub struct VolumeLength {
     pub found: u64,
     pub blocks: u32,
     pub size: u32,
     pub block_size: u32,
+    pub largest: u32,
 }
 
 /// A segment that stands where a fault of a volume is: its address, the name of its type, and its key, without bytes where the type has none.
@@ -144,32 +160,107 @@ fn kind_of(word: Named, beginning: Beginning) -> Option<Sight> {
 
 /// How long a volume's file is, with what its header and the database tell of it.
 fn length_of(file: &File, head: &[u8; HEAD], dbd: &Dbd) -> io::Result<VolumeLength> {
-    let [_, _, _, _, _, _, _, _, _, _, s1, s0, b3, b2, b1, b0, ..] = *head;
+    let [
+        _,
+        _,
+        _,
+        _,
+        _,
+        _,
+        _,
+        _,
+        _,
+        _,
+        s1,
+        s0,
+        b3,
+        b2,
+        b1,
+        b0,
+        l3,
+        l2,
+        l1,
+        l0,
+        ..
+    ] = *head;
     Ok(VolumeLength {
         found: file.metadata()?.len(),
         blocks: u32::from_be_bytes([b3, b2, b1, b0]),
         size: u32::from(u16::from_be_bytes([s1, s0])),
         block_size: dbd.block_size(),
+        largest: u32::from_be_bytes([l3, l2, l1, l0]),
     })
 }
 
 /// What the file is that was given for a volume and is none; or how long the volume is.
 fn see_volume(file: &File, dbd: &Dbd) -> io::Result<Option<Sight>> {
     let (head, count) = head_of(file)?;
+    let length = length_of(file, &head, dbd)?;
     match Beginning::of(head.get(..count).unwrap_or(&[])) {
-        Beginning::Volume => Ok(Some(Sight::Length(length_of(file, &head, dbd)?))),
-        _ if count == 0 => Ok(Some(Sight::Length(length_of(file, &head, dbd)?))),
+        Beginning::Volume => Ok(Some(Sight::Length(length))),
+        Beginning::Unknown if length.found < u64::from(length.block_size) => {
+            Ok(Some(Sight::Length(length)))
+        }
+        Beginning::Unknown => Ok(Some(Sight::Mark)),
         beginning => Ok(kind_of(Named::Volume, beginning)),
     }
 }
 
-/// What the file is that was given for an unload stream and is none.
-fn see_stream<R: Files<File = File>>(rt: &R, name: &str) -> io::Result<Option<Sight>> {
+/// What an unload stream says that it is which begins with these bytes.
+fn stream_head(head: &[u8; HEAD], database: Name8) -> StreamHead {
+    let [_, _, _, _, _, _, _, _, v1, v0, a, b, c, d, e, f, g, h, ..] = *head;
+    StreamHead {
+        version: u16::from_be_bytes([v1, v0]),
+        name: [a, b, c, d, e, f, g, h],
+        database,
+    }
+}
+
+/// What the file is that was given for an unload stream and is none, or none of the database.
+fn see_stream<R: Files<File = File>>(
+    rt: &R,
+    alloc: Global,
+    request: &Request<'_>,
+) -> Result<Option<Sight>, Stop> {
     let mut options = OpenOptions::new();
     options.read(true);
-    let (head, count) = head_of(&open(rt, &options, name)?)?;
-    let beginning = Beginning::of(head.get(..count).unwrap_or(&[]));
-    Ok(kind_of(Named::Stream, beginning))
+    let file = open(rt, &options, request.name_of(Named::Stream))?;
+    let (head, count) = head_of(&file)?;
+    match Beginning::of(head.get(..count).unwrap_or(&[])) {
+        Beginning::Stream => {
+            let (dbd, _) = read_database(rt, alloc, request.name_of(Named::Dbd))?;
+            Ok(Some(Sight::Stream(stream_head(&head, *dbd.name()))))
+        }
+        beginning => Ok(kind_of(Named::Stream, beginning)),
+    }
+}
+
+/// What stands in the log of a volume that may be written.
+fn left_of<R: Files<File = File>>(rt: &R, alloc: Global, volume: &str) -> Result<Left, FileFault> {
+    let mut options = OpenOptions::new();
+    options.read(true).write(true);
+    drop(of_file(Named::Volume, open(rt, &options, volume))?);
+    let (file, identity) = open_shared(rt, volume)?;
+    let files = VolumeFiles::to_read(rt, alloc, volume, &file, identity)?;
+    files.left()
+}
+
+/// Of which file an error tells that the system said of a volume which calls change. What they change goes into its log alone before it is committed: so it is
+/// the log, unless the volume may not be written at all, or commits stand in its log alone, which could not be copied.
+pub fn written_file<R: Files<File = File>>(
+    rt: &R,
+    alloc: Global,
+    request: &Request<'_>,
+    error: &io::Error,
+) -> Named {
+    let is_changed = matches!(request, Request::Deck { .. } | Request::Serve { .. });
+    if !is_changed || error.raw_os_error().is_none() {
+        return Named::Volume;
+    }
+    match left_of(rt, alloc, request.name_of(Named::Volume)) {
+        Ok(Left::Nothing | Left::Uncommitted) => Named::Log,
+        Ok(Left::Commits) | Err(_) => Named::Volume,
+    }
 }
 
 /// What is seen where the refusal of a command tells of its volume, or of its stream. The file is opened once more, for reading alone; `None` where
@@ -181,7 +272,7 @@ pub fn see_refused<R: Files<File = File>>(
     refusal: Refusal,
 ) -> Option<Sight> {
     if let Refusal::Record(RecordFault::U1, _) = refusal {
-        return see_stream(rt, request.name_of(Named::Stream)).ok()?;
+        return see_stream(rt, alloc, request).ok()?;
     }
     let address = address_of(refusal);
     if address.is_none() && !is_of_file(refusal) {

@@ -13,6 +13,18 @@ use std::io::{self, ErrorKind};
 /// The status where the command line is not understood, or would write over an input.
 pub const COMMAND_LINE: u8 = 64;
 
+/// Why a table is refused: the fault, the name of its file without the ending, the line, the name of the column that is at fault, without bytes where none is, the names
+/// that the table may have, or that its columns may have, and its text.
+#[derive(Drop)]
+pub struct TableFault {
+    pub fault: RowFault,
+    pub name: String,
+    pub line: u64,
+    pub column: Vec<u8>,
+    pub names: Vec<u8>,
+    pub text: Vec<u8>,
+}
+
 /// Why the program ended without having done its work. Its text is the line on standard error.
 #[derive(Drop)]
 pub enum Stop {
@@ -26,8 +38,8 @@ pub enum Stop {
     Deck(DeckFault, Vec<u8>, Named),
     /// A text of rows has a fault on a line; with the text.
     Rows(RowFault, u64, Vec<u8>),
-    /// A table has a fault on a line; with the name of its type.
-    Table(RowFault, String, u64),
+    /// A table has a fault on a line.
+    Table(TableFault),
     /// The system refused to open, to read or to write a file.
     File(Named, io::Error),
     /// The system refused to make a new file beside one, in which the result for it was to be written.
@@ -50,6 +62,18 @@ pub enum Stop {
     Refused(Refusal),
 }
 
+impl fmt::Display for TableFault {
+    fn fmt<W: fmt::Write>(&self, f: &mut fmt::Formatter<W>) -> fmt::Result {
+        let TableFault {
+            fault,
+            name,
+            line,
+            ..
+        } = self;
+        write!(f, "IN refused: {name}.csv, line {line}, {fault}")
+    }
+}
+
 impl fmt::Display for Stop {
     fn fmt<W: fmt::Write>(&self, f: &mut fmt::Formatter<W>) -> fmt::Result {
         let text = match self {
@@ -58,9 +82,7 @@ impl fmt::Display for Stop {
             Stop::Source(fault, _) => return write!(f, "source refused: {fault}"),
             Stop::Deck(fault, _, _) => return write!(f, "DECK refused: {fault}"),
             Stop::Rows(fault, line, _) => return write!(f, "IN refused: line {line}, {fault}"),
-            Stop::Table(fault, name, line) => {
-                return write!(f, "IN refused: {name}.csv, line {line}, {fault}");
-            }
+            Stop::Table(table) => return write!(f, "{table}"),
             Stop::Frame(fault) => return write!(f, "frame refused: {fault}"),
             Stop::Refused(refusal) => return write!(f, "{refusal}"),
             Stop::File(_, _) | Stop::Beside(_, _) => "device failed",
@@ -133,7 +155,7 @@ impl Stop {
     pub fn status(&self) -> u8 {
         match self {
             Stop::Database(_, _) | Stop::Program(_, _) | Stop::Source(_, _) => 2,
-            Stop::Deck(_, _, _) | Stop::Rows(_, _, _) | Stop::Table(_, _, _) => 2,
+            Stop::Deck(_, _, _) | Stop::Rows(_, _, _) | Stop::Table(_) => 2,
             Stop::Fields => 2,
             Stop::File(_, _) | Stop::Beside(_, _) | Stop::InUse(_) | Stop::Frame(_) => 3,
             Stop::OtherVolume | Stop::OtherVersion | Stop::Waiting(_) => 3,

@@ -1,10 +1,13 @@
 use crate::dbd_source::read_database;
-use crate::stop::Stop;
+use crate::stop::{Stop, TableFault};
 use hd_commands::{Ended, Refusal};
 use hd_dbd::{Dbd, Name8, SegType};
-use hd_files::{FileFault, Identity, Named, Output, Wanted, Watched, read_file};
+use hd_files::{FileFault, Identity, Named, Output, Wanted, Watched, read_file, read_whole};
 use hd_output::Pieces;
-use hd_rows::{TextFault, Values, stream_of_rows, stream_of_tables};
+use hd_rows::{
+    RowFault, TextFault, Values, code_named, column_name, header_of, stream_of_rows,
+    stream_of_tables,
+};
 use std::alloc::{AllocError, Global};
 use std::fs::File;
 use std::io::{self, ErrorKind, Write};
@@ -91,7 +94,7 @@ where
 /// Why a text of rows makes no stream.
 fn rows_refused(fault: TextFault, text: Vec<u8>, said: Option<io::Error>) -> Stop {
     match fault {
-        TextFault::Row(fault, line) | TextFault::Table(fault, _, line) => {
+        TextFault::Row(fault, line) | TextFault::Table(fault, _, line, _) => {
             Stop::Rows(fault, line, text)
         }
         TextFault::Memory => Stop::from(Refusal::Memory),
@@ -133,6 +136,88 @@ fn read_if_there<R: Files<File = File>>(
     }
 }
 
+/// The names of the files in a folder, behind each of which stands a zero.
+fn names_in<R: Files<File = File>>(rt: &R, alloc: Global, folder: &str) -> Result<Vec<u8>, Stop> {
+    let mut files = match rt.open_dir(folder) {
+        Ok(files) => files,
+        Err(error) => return Err(Stop::file(Named::Rows, error)),
+    };
+    match read_whole(alloc, &mut files) {
+        Ok(names) => Ok(names),
+        Err(error) => Err(Stop::file(Named::Rows, error)),
+    }
+}
+
+/// The name of a table's file without its ending; `None` of another file, and of a hidden one.
+fn table_name(file: &[u8]) -> Option<&[u8]> {
+    match file {
+        [b'.', ..] => None,
+        [name @ .., b'.', b'c', b's', b'v'] => Some(name),
+        _ => None,
+    }
+}
+
+/// Of the names of files, the first of a table that is of no type of the database.
+fn unknown_table<'n>(dbd: &Dbd, names: &'n [u8]) -> Option<&'n [u8]> {
+    let mut first: Option<&[u8]> = None;
+    for file in names.split(|byte| *byte == 0) {
+        let Some(name) = table_name(file) else {
+            continue;
+        };
+        if code_named(dbd, name).is_none() && first.is_none_or(|before| name < before) {
+            first = Some(name);
+        }
+    }
+    first
+}
+
+/// A name as a text, with `?` for what is no character of ASCII.
+fn plain(alloc: Global, name: &[u8]) -> Result<String, AllocError> {
+    let mut text = String::new(alloc);
+    for byte in name {
+        let character = if matches!(*byte, b' '..=b'~') {
+            char::from(*byte)
+        } else {
+            '?'
+        };
+        text.push(character)?;
+    }
+    Ok(text)
+}
+
+/// The names of a database's types, with a comma between.
+fn type_names(alloc: Global, dbd: &Dbd) -> Result<Vec<u8>, AllocError> {
+    let mut names = Vec::new(alloc);
+    for segment in dbd.types() {
+        if !names.is_empty() {
+            names.extend_from_slice(b", ")?;
+        }
+        names.extend_from_slice(text_of(&segment.name).as_bytes())?;
+    }
+    Ok(names)
+}
+
+/// Refuses a table in a folder that is of no type of the database.
+fn know_tables<R: Files<File = File>>(
+    rt: &R,
+    alloc: Global,
+    dbd: &Dbd,
+    folder: &str,
+) -> Result<(), Stop> {
+    let names = names_in(rt, alloc, folder)?;
+    match unknown_table(dbd, &names) {
+        Some(name) => Err(Stop::Table(TableFault {
+            fault: RowFault::Type,
+            name: plain(alloc, name)?,
+            line: 1,
+            column: Vec::new(alloc),
+            names: type_names(alloc, dbd)?,
+            text: Vec::new(alloc),
+        })),
+        None => Ok(()),
+    }
+}
+
 /// Adds the table of a type in a folder, if there is one.
 fn add_table<R: Files<File = File>>(
     rt: &R,
@@ -152,7 +237,7 @@ fn add_table<R: Files<File = File>>(
     Ok(())
 }
 
-/// The tables in a folder, those of the types of a database.
+/// The tables in a folder, each of a type of a database.
 fn read_tables<R: Files<File = File>>(
     rt: &R,
     alloc: Global,
@@ -160,6 +245,7 @@ fn read_tables<R: Files<File = File>>(
     source: Identity,
     folder: &str,
 ) -> Result<Tables, Stop> {
+    know_tables(rt, alloc, dbd, folder)?;
     let mut tables = Tables {
         codes: Vec::new(alloc),
         texts: Vec::new(alloc),
@@ -202,8 +288,8 @@ fn write_tables<W: Write>(
     handed_on(made, &mut records)
 }
 
-/// Makes an unload stream, in a file, of the tables in a folder, each in a file that has the name of its type and the ending `.csv`. All
-/// else is as with a text of rows.
+/// Makes an unload stream, in a file, of the tables in a folder, each in a file that has the name of its type and the ending `.csv`; a table of another
+/// name is refused. All else is as with a text of rows.
 pub fn make_of_tables<R, O>(
     rt: &R,
     alloc: Global,
@@ -226,27 +312,70 @@ where
     let made = write_tables(alloc, &dbd, &pairs, values, &mut file);
     let said = file.last_error();
     drop(file);
+    drop(pairs);
     match made {
         Ok(segments) => end_stream(segments, &mut output, out),
-        Err(fault) => Err(tables_refused(alloc, &dbd, fault, said)),
+        Err(fault) => Err(tables_refused(alloc, &dbd, fault, tables, said)),
     }
 }
 
 /// Why tables make no stream.
-fn tables_refused(alloc: Global, dbd: &Dbd, fault: TextFault, said: Option<io::Error>) -> Stop {
+fn tables_refused(
+    alloc: Global,
+    dbd: &Dbd,
+    fault: TextFault,
+    tables: Tables,
+    said: Option<io::Error>,
+) -> Stop {
     match fault {
         TextFault::Row(fault, line) => Stop::Rows(fault, line, Vec::new(alloc)),
-        TextFault::Table(fault, code, line) => {
-            let name = match dbd.type_of(code) {
-                Some(segment) => segment.name,
-                None => return Stop::Rows(fault, line, Vec::new(alloc)),
-            };
-            match String::from_str(alloc, text_of(&name)) {
-                Ok(name) => Stop::Table(fault, name, line),
+        TextFault::Table(fault, code, line, column) => {
+            let text = text_of_table(alloc, tables, code);
+            match table_refused(alloc, dbd, fault, code, line, column, text) {
+                Ok(table) => Stop::Table(table),
                 Err(_) => Stop::from(Refusal::Memory),
             }
         }
         TextFault::Memory => Stop::from(Refusal::Memory),
         TextFault::Write => Stop::device(Named::Out, said),
     }
+}
+
+/// The text of the table of a type.
+fn text_of_table(alloc: Global, tables: Tables, code: u8) -> Vec<u8> {
+    let Tables { codes, texts, .. } = tables;
+    for (own, text) in codes.iter().zip(texts) {
+        if *own == code {
+            return text;
+        }
+    }
+    Vec::new(alloc)
+}
+
+/// Why the table of a type is refused.
+fn table_refused(
+    alloc: Global,
+    dbd: &Dbd,
+    fault: RowFault,
+    code: u8,
+    line: u64,
+    column: Option<usize>,
+    text: Vec<u8>,
+) -> Result<TableFault, AllocError> {
+    let name = match dbd.type_of(code) {
+        Some(segment) => String::from_str(alloc, text_of(&segment.name))?,
+        None => String::new(alloc),
+    };
+    let own = match column {
+        Some(column) => column_name(alloc, &text, column),
+        None => None,
+    };
+    Ok(TableFault {
+        fault,
+        name,
+        line,
+        column: own.unwrap_or(Vec::new(alloc)),
+        names: header_of(alloc, dbd, code)?,
+        text,
+    })
 }

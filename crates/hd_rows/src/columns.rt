@@ -1,6 +1,7 @@
 use crate::above::{Above, keys_above};
-use crate::cell::read_cell;
+use crate::cell::{read_cell, without_ends};
 use crate::fault::{RowFault, Wrong};
+use crate::mark::without_mark;
 use crate::naming::code_named;
 use crate::part::{Part, part_named};
 use hd_dbd::Dbd;
@@ -108,15 +109,15 @@ fn lacks_some_key(columns: &[Column], above: &[Above]) -> bool {
     false
 }
 
-/// The columns that the first record of a table of a type names; and what follows it.
-pub fn columns_named<'t>(
+/// Adds the columns that the first record of a table of a type names, up to the first that is none; gives what follows it.
+pub fn add_columns<'t>(
     alloc: Global,
     dbd: &Dbd,
     code: u8,
     above: &[Above],
     text: &'t [u8],
-) -> Result<(Vec<Column>, &'t [u8]), Wrong> {
-    let mut columns = Vec::new(alloc);
+    columns: &mut Vec<Column>,
+) -> Result<&'t [u8], Wrong> {
     let mut name = Vec::new(alloc);
     let mut left = text;
     for _ in 0..=text.len() {
@@ -130,8 +131,49 @@ pub fn columns_named<'t>(
             break;
         }
     }
-    if lacks_some_key(&columns, above) {
+    if lacks_some_key(columns, above) {
         return Err(Wrong::Row(RowFault::Missing));
     }
-    Ok((columns, left))
+    Ok(left)
+}
+
+/// What the first record of a table calls the column of a place, from 0.
+pub fn column_name(alloc: Global, text: &[u8], column: usize) -> Option<Vec<u8>> {
+    let mut name = Vec::new(alloc);
+    let mut left = without_ends(without_mark(text));
+    for place in 0..=column {
+        let behind = read_cell(left, &mut name).ok()?;
+        if place == column {
+            return Some(name);
+        }
+        if behind.is_last {
+            return None;
+        }
+        left = behind.rest;
+    }
+    None
+}
+
+/// The place of the column of the key of the nearest type above.
+pub fn nearest_key(columns: &[Column]) -> Option<usize> {
+    let mut nearest: Option<usize> = None;
+    let mut start = 0u32;
+    for (place, column) in columns.iter().enumerate() {
+        if column.is_key && column.part.start >= start {
+            nearest = Some(place);
+            start = column.part.start;
+        }
+    }
+    nearest
+}
+
+/// The place of the column of the bytes of a segment from a place on, of which it has so many.
+pub fn column_of_bytes(columns: &[Column], start: u32, length: u32) -> Option<usize> {
+    for (place, column) in columns.iter().enumerate() {
+        let is_own = !column.is_key && column.part.length == length;
+        if is_own && column.part.start == start {
+            return Some(place);
+        }
+    }
+    None
 }

@@ -62,10 +62,10 @@ pub enum TextFault {
     /// A line of a text of rows is refused, the first with a fault.
     #[error("line {1}: {0}")]
     Row(RowFault, u64),
-    /// A record of a table is refused, the first with a fault, of the first table with a fault: the code of the table's type, and the
-    /// line on which the record begins.
+    /// A record of a table is refused, the first with a fault, of the first table with a fault: the code of the table's type, the
+    /// line on which the record begins, and the place of the column that is at fault, from 0, where it is one.
     #[error("table of type {1}, line {2}: {0}")]
-    Table(RowFault, u8, u64),
+    Table(RowFault, u8, u64, Option<usize>),
     /// No memory.
     #[error("no memory")]
     Memory,

@@ -25,8 +25,10 @@ mod value;
 mod walk;
 mod writer;
 
+pub use columns::column_name;
 pub use fault::{RowFault, TextFault};
 pub use naming::code_named;
+pub use table_text::header_of;
 pub use tables::stream_of_tables;
 pub use text::stream_of_rows;
 pub use typed::Values;

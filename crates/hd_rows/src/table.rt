@@ -1,5 +1,7 @@
 use crate::cell::{Behind, read_cell, without_ends};
-use crate::columns::{Column, columns_named, keys_length, parents_above};
+use crate::columns::{
+    Column, add_columns, column_of_bytes, keys_length, nearest_key, parents_above,
+};
 use crate::draft::Draft;
 use crate::fault::{RowFault, TextFault, Wrong};
 use crate::mark::without_mark;
@@ -7,7 +9,7 @@ use crate::part::bytes_at;
 use crate::rows::Rows;
 use crate::text::line_at;
 use crate::typed::{Cells, Values};
-use hd_dbd::Dbd;
+use hd_dbd::{Dbd, Key};
 use std::alloc::{AllocError, Global};
 
 /// A table of a type's rows: its text, its columns, and what is needed again for each record.
@@ -18,13 +20,15 @@ pub struct TableReader<'a> {
     text: &'a [u8],
     length: u32,
     least: Option<u32>,
+    key: Option<Key>,
     columns: Vec<Column>,
     record: Record,
 }
 
-/// A record while its cells are read: the cell that was read last, the keys of its parents, its segment, and how its cells are read.
+/// A record while its cells are read: the column whose cell is read, that cell, the keys of its parents, its segment, and how its cells are read.
 #[derive(Drop)]
 struct Record {
+    column: Option<usize>,
     cell: Vec<u8>,
     keys: Draft,
     segment: Draft,
@@ -56,12 +60,14 @@ impl Record {
             rest: text,
             is_last: false,
         };
-        for column in columns {
+        for (place, column) in columns.iter().enumerate() {
             if behind.is_last {
                 return Err(Wrong::Row(RowFault::Cells));
             }
+            self.column = Some(place);
             behind = self.take_cell(column, behind.rest)?;
         }
+        self.column = None;
         if behind.is_last {
             Ok(behind.rest)
         } else {
@@ -73,9 +79,9 @@ impl Record {
 impl<'a> TableReader<'a> {
     /// A table of a type, without columns.
     fn new(alloc: Global, dbd: &Dbd, code: u8, text: &'a [u8]) -> TableReader<'a> {
-        let (length, least) = match dbd.type_of(code) {
-            Some(segment) => (segment.length, segment.least),
-            None => (0, None),
+        let (length, least, key) = match dbd.type_of(code) {
+            Some(segment) => (segment.length, segment.least, segment.key),
+            None => (0, None, None),
         };
         TableReader {
             code,
@@ -83,8 +89,10 @@ impl<'a> TableReader<'a> {
             text,
             length,
             least,
+            key,
             columns: Vec::new(alloc),
             record: Record {
+                column: None,
                 cell: Vec::new(alloc),
                 keys: Draft::new(alloc),
                 segment: Draft::new(alloc),
@@ -95,7 +103,26 @@ impl<'a> TableReader<'a> {
 
     /// A fault at the record that begins at a place.
     pub fn fault_at(&self, place: usize, fault: RowFault) -> TextFault {
-        TextFault::Table(fault, self.code, line_at(self.text, place))
+        TextFault::Table(
+            fault,
+            self.code,
+            line_at(self.text, place),
+            self.column_of(fault),
+        )
+    }
+
+    /// The place of the column that a fault is of: that which is read, or that of a key.
+    fn column_of(&self, fault: RowFault) -> Option<usize> {
+        match fault {
+            RowFault::Part | RowFault::Length | RowFault::Differs => self.record.column,
+            RowFault::Value | RowFault::Number => self.record.column,
+            RowFault::Orphan => nearest_key(&self.columns),
+            RowFault::Equal => {
+                let key = self.key?;
+                column_of_bytes(&self.columns, key.start.saturating_sub(1), key.length)
+            }
+            _ => None,
+        }
     }
 
     /// The place where what is left of the text begins.
@@ -111,10 +138,14 @@ impl<'a> TableReader<'a> {
         text: &'t [u8],
     ) -> Result<&'t [u8], Wrong> {
         let above = parents_above(alloc, dbd, self.code)?;
-        let (columns, rest) = columns_named(alloc, dbd, self.code, &above, text)?;
         self.keys_length = keys_length(&above);
-        self.columns = columns;
-        Ok(rest)
+        match add_columns(alloc, dbd, self.code, &above, text, &mut self.columns) {
+            Ok(rest) => Ok(rest),
+            Err(wrong) => {
+                self.record.column = Some(self.columns.len());
+                Err(wrong)
+            }
+        }
     }
 
     /// Takes the record at the front of a text; gives what follows.

@@ -225,3 +225,11 @@ impl Table {
         }
     }
 }
+
+/// The line of the columns' names of the table of a type.
+pub fn header_of(alloc: Global, dbd: &Dbd, code: u8) -> Result<Vec<u8>, AllocError> {
+    let mut line = Vec::new(alloc);
+    let table = Table::new(alloc, dbd, code)?;
+    names_line(&mut line, &table.kept, &table.columns)?;
+    Ok(line)
+}

@@ -30,7 +30,7 @@ impl Source for TableTexts<'_> {
                 return table.fault_at(row.start, fault);
             }
         }
-        TextFault::Table(fault, row.code, 1)
+        TextFault::Table(fault, row.code, 1, None)
     }
 }
 
@@ -92,10 +92,10 @@ fn tables_fault(dbd: &Dbd, tables: &[(u8, &[u8])]) -> Option<TextFault> {
     for place in 0..tables.len() {
         let code = tables[place].0;
         if dbd.type_of(code).is_none() {
-            return Some(TextFault::Table(RowFault::Type, code, 1));
+            return Some(TextFault::Table(RowFault::Type, code, 1, None));
         }
         if has_table(&tables[..place], code) {
-            return Some(TextFault::Table(RowFault::Twice, code, 1));
+            return Some(TextFault::Table(RowFault::Twice, code, 1, None));
         }
     }
     None

@@ -73,11 +73,12 @@ fn put_twins<W: Write>(survey: &Survey, dbd: &Dbd, code: u8, ink: &mut Ink<'_, W
     if own.longest_parent == 0 {
         ink.put(b" below no parent");
     } else {
+        let above = match dbd.type_of(parent) {
+            Some(above) => name_text(&above.name),
+            None => &[],
+        };
         ink.put(b" below the ");
-        ink.put(
-            dbd.type_of(parent)
-                .map_or(b"", |above| name_text(&above.name)),
-        );
+        ink.put(above);
         ink.fill(b" at $", &[u64::from(own.longest_parent)]);
     }
     ink.put(b"; a search passes over half of them\n");

@@ -146,7 +146,7 @@ fn refuses_tables_of_no_type_and_of_one_twice(rt: HostRuntime) -> Result<(), Fai
         let tables: [(u8, &[u8]); 2] = [(1, b"NUM\n101\n205\n"), (code, b"")];
         let mut made = Vec::new(rt.alloc());
         let refused = stream_of_tables(rt.alloc(), &dbd, &tables, Values::Bytes, &mut made).err();
-        assert_eq!(rt; refused, Some(TextFault::Table(fault, code, 1)));
+        assert_eq!(rt; refused, Some(TextFault::Table(fault, code, 1, None)));
     }
     Ok(())
 }

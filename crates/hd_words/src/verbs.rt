@@ -1,7 +1,26 @@
+/// What a command asks for.
+#[derive(Clone, Copy)]
+pub enum Asks {
+    Deck,
+    Serve,
+    Check,
+    Recover,
+    Unload,
+    Copy,
+    Salvage,
+    Reload,
+    Show,
+    Rows,
+    Stream,
+    Operands,
+    Explain,
+}
+
 /// A command that stands behind the program's name.
 #[derive(Clone, Copy)]
 pub struct Verb {
     pub name: &'static str,
+    pub asks: Asks,
     /// What the command does, as the help says it.
     pub about: &'static str,
     /// The words that may follow it, in the order of the help.
@@ -118,9 +137,14 @@ const TYPED: Word = Word {
 };
 
 /// The commands, in the order of the help.
-pub const VERBS: &[Verb] = &[
+pub fn verbs() -> &'static [Verb] {
+    VERBS
+}
+
+const VERBS: &[Verb] = &[
     Verb {
         name: "deck",
+        asks: Asks::Deck,
         about: "Plays a deck of DL/I calls over a volume, which it checks first",
         words: &[
             DBD,
@@ -139,16 +163,19 @@ pub const VERBS: &[Verb] = &[
     },
     Verb {
         name: "serve",
+        asks: Asks::Serve,
         about: "Serves a program's DL/I calls over a volume, which it checks first: they come as frames on standard input",
         words: &[DBD, PSB, CHANGED_VOLUME, COMMIT_ON_REQUEST, CACHE, NO_SYNC],
     },
     Verb {
         name: "check",
+        asks: Asks::Check,
         about: "Says whether a volume is sound, or names its first fault",
         words: &[DBD, VOLUME, CACHE],
     },
     Verb {
         name: "recover",
+        asks: Asks::Recover,
         about: "Copies the commits that stand in a volume's log into the volume, and checks it",
         words: &[
             DBD,
@@ -167,6 +194,7 @@ pub const VERBS: &[Verb] = &[
     },
     Verb {
         name: "unload",
+        asks: Asks::Unload,
         about: "Checks a volume, and writes its unload stream",
         words: &[
             DBD,
@@ -182,6 +210,7 @@ pub const VERBS: &[Verb] = &[
     },
     Verb {
         name: "copy",
+        asks: Asks::Copy,
         about: "Checks a volume, and copies it",
         words: &[
             DBD,
@@ -197,6 +226,7 @@ pub const VERBS: &[Verb] = &[
     },
     Verb {
         name: "salvage",
+        asks: Asks::Salvage,
         about: "Writes an unload stream of what a volume still holds that does not pass a check, and says what is left out",
         words: &[
             DBD,
@@ -217,6 +247,7 @@ pub const VERBS: &[Verb] = &[
     },
     Verb {
         name: "reload",
+        asks: Asks::Reload,
         about: "Makes a volume of an unload stream",
         words: &[
             DBD,
@@ -241,6 +272,7 @@ pub const VERBS: &[Verb] = &[
     },
     Verb {
         name: "show",
+        asks: Asks::Show,
         about: "Draws the hierarchy that a DBD describes; or a volume, which it checks",
         words: &[
             DBD,
@@ -260,6 +292,7 @@ pub const VERBS: &[Verb] = &[
     },
     Verb {
         name: "rows",
+        asks: Asks::Rows,
         about: "Checks a volume, and writes its segments in hierarchic sequence, a line each",
         words: &[
             DBD,
@@ -281,6 +314,7 @@ pub const VERBS: &[Verb] = &[
     },
     Verb {
         name: "stream",
+        asks: Asks::Stream,
         about: "Makes an unload stream, which hd reload takes, of a text of rows as hd rows writes it",
         words: &[
             DBD,
@@ -305,6 +339,7 @@ pub const VERBS: &[Verb] = &[
     },
     Verb {
         name: "operands",
+        asks: Asks::Operands,
         about: "Lists the operands of a DBD or PSB source, one on a line, for scripts",
         words: &[Word {
             name: "SOURCE",
@@ -314,6 +349,7 @@ pub const VERBS: &[Verb] = &[
     },
     Verb {
         name: "explain",
+        asks: Asks::Explain,
         about: "Says what a fault, status or refusal means; without a word it lists them all",
         words: &[Word {
             name: "WORD",

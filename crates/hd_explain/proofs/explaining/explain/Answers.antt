@@ -5,6 +5,7 @@ use Rattle.hd_explain.specs.declared.sources.TheConstants.{SOURCE_FAULTS}
 use Rattle.hd_explain.specs.declared.decks.TheConstants.{DECK_FAULTS, STREAM_FAULTS}
 use Rattle.hd_explain.specs.declared.calls.TheConstants.{STATUS_CODES, REFUSALS}
 use Rattle.hd_explain.specs.declared.exits.TheConstants.{EXIT_STATUSES}
+use Rattle.hd_explain.specs.declared.lines.TheConstants.{LINES}
 use Rattle.hd_explain.specs.Entries.{plains, entry_of}
 use Rattle.hd_explain.specs.Tables.{all_entries}
 use Rattle.hd_explain.proofs.Finding.{searched}
@@ -21,7 +22,9 @@ returns c =
     let five : List (Entry (List ℕ)) = plains STATUS_CODES.now (λ text. text.now) in
     let six : List (Entry (List ℕ)) = plains REFUSALS.now (λ text. text.now) in
     let seven : List (Entry (List ℕ)) = plains EXIT_STATUSES.now (λ text. text.now) in
-    searched word (one ++ two ++ three ++ four ++ five ++ six) seven _ _
+    let eight : List (Entry (List ℕ)) = plains LINES.now (λ text. text.now) in
+    searched word (one ++ two ++ three ++ four ++ five ++ six ++ seven) eight _ _
+    (searched word (one ++ two ++ three ++ four ++ five ++ six) seven _ _
     (searched word (one ++ two ++ three ++ four ++ five) six _ _
     (searched word (one ++ two ++ three ++ four) five _ _
     (searched word (one ++ two ++ three) four _ _
@@ -31,4 +34,5 @@ returns c =
     c.entry_or-found-4.ensures)
     c.entry_or-found-5.ensures)
     c.entry_or-found-6.ensures)
+    c.entry_or-found-7.ensures)
     c.entry_or.ensures
