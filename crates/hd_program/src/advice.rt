@@ -2,6 +2,7 @@ use crate::beginning::Beginning;
 use crate::dbd_source::read_database;
 use crate::ink::Ink;
 use crate::places::line_at;
+use crate::row_advice::advise_row;
 use crate::sights::{Sight, Sighted, StreamHead, VolumeLength, written_file};
 use crate::source_advice::{SourceText, advise_source};
 use crate::stop::{Stop, TableFault};
@@ -52,9 +53,10 @@ pub fn advise_stop<R: Files<File = File>, E: Write>(
         Stop::Deck(fault, text, file) => {
             advise_deck(alloc, *fault, request.name_of(*file), text, &mut ink);
         }
-        Stop::Rows(_, line, text) => {
+        Stop::Rows(fault, line, text) => {
             let number = usize::try_from(*line).unwrap_or(usize::MAX);
             put_line(request.name_of(Named::Rows), number, text, &mut ink);
+            advise_row(*fault, &mut ink);
         }
         Stop::File(Named::Volume, error) => {
             let file = written_file(rt, alloc, request, error);
@@ -361,6 +363,7 @@ fn put_table<E: Write>(folder: &str, table: &TableFault, ink: &mut Ink<'_, E>) {
         ink.put("\n");
     }
     put_names(table, ink);
+    advise_row(table.fault, ink);
 }
 
 /// Writes the names that a table may have, or its columns.
