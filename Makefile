@@ -2,11 +2,11 @@
 # is the gate, with all that tests play over the proved program and that the documents and the programs of other languages show, and `make edits OF=NAME` tries more edits
 # of a crate than the gate does. `make examples` plays what the documents, the manual page and examples show, and compares, and so the words of
 # FORMATS and how hd is called; `make program-test` plays hd over many cases of words, files and standard input; `make install-test` installs it into folders of its own; `make serve-test` plays frames of `hd serve`, and `make commits-test` programs that commit, take back and are killed; `make calls-test`
-# compares worked lists and random decks with a plain list of rows; `make files-test` tries that nothing loses a file, and `make crash-test` that a crash leaves the last commit; `make definitions` lists each word of
+# compares worked lists and random decks with a plain list of rows, and `make rows-test` what goes out as rows and tables with what comes back; `make files-test` tries that nothing loses a file, and `make crash-test` that a crash leaves the last commit; `make definitions` lists each word of
 # the specs; `make bench` measures hd, and SQLite beside it; `make dli` makes hdrun, which runs programs that call DL/I, and
 # `make dli-test` tries it; `make install` puts the program, its manual pages and what shells complete below PREFIX, `make install-dli` what programs
 # want, hd.py where Python looks for modules, and `make uninstall` takes them away.
-.PHONY: all run try test program-test install-test serve-test commits-test calls-test salvage-test files-test crash-test edits examples definitions bench dli dli-test has-room install uninstall install-dli clean
+.PHONY: all run try test program-test install-test serve-test commits-test calls-test salvage-test rows-test files-test crash-test edits examples definitions bench dli dli-test has-room install uninstall install-dli clean
 
 SHELL = /bin/bash
 
@@ -57,6 +57,10 @@ crash-test: bin/hd
 salvage-test: bin/hd
 	python3 tests/salvage_test.py bin/hd --cases $(or $(CASES),300)
 
+# databases of random fields, keys and bytes that go out as rows and as tables, and come back. CASES says how many
+rows-test: bin/hd
+	python3 tests/rows_test.py bin/hd --cases $(or $(CASES),300)
+
 # what hd prints and leaves, and its statuses, for the cases of tests/cases
 program-test: bin/hd
 	python3 tests/program_test.py bin/hd
@@ -85,7 +89,7 @@ test:
 	mkdir -p bin
 	TIMEFORMAT='%R s, and %U s of processors' && set -o pipefail && time RT_JOBS=$(LANES) rt ci | tee bin/gate.log
 	python3 make/stamp.py crates/hd/out/hd bin/hd
-	$(MAKE) --no-print-directory -o bin/hd program-test install-test serve-test commits-test calls-test salvage-test examples $(DLI_TEST)
+	$(MAKE) --no-print-directory -o bin/hd program-test install-test serve-test commits-test calls-test salvage-test rows-test examples $(DLI_TEST)
 	@$(if $(DLI_TEST),,echo 'No program in COBOL or C was tried: this machine has no cobc, or no C compiler.' >&2)
 	@tail -n 1 bin/gate.log
 

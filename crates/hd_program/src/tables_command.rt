@@ -15,7 +15,7 @@ use hd_output::Progress;
 use hd_rows::{Form, Values};
 use hd_stores::{BlockStore, RunStore};
 use hd_volume::Volume;
-use std::alloc::Global;
+use std::alloc::{AllocError, Global};
 use std::fs::File;
 use std::io::{self, Write};
 use std::marker::Brand;
@@ -30,6 +30,33 @@ struct Folder<'a, R: Files<File = File>> {
     values: Values,
     syncs: bool,
     inputs: [Identity; 2],
+}
+
+impl<R: Files<File = File>> Folder<'_, R> {
+    /// The name of the file of a type's table.
+    fn file_of(&self, alloc: Global, segment: &SegType) -> Result<String, AllocError> {
+        let (folder, name) = (self.name, text_of(&segment.name));
+        format!(in alloc; "{folder}/{name}.csv")
+    }
+
+    /// How a table's file is written.
+    fn wanted<'w>(&self, file: &'w str) -> Wanted<'w> {
+        Wanted {
+            name: file,
+            word: Named::Out,
+            is_read: false,
+            syncs: self.syncs,
+        }
+    }
+
+    /// Sees that the file of each table can be written, and is none that the command reads, before the first is.
+    fn be_writable(&self, alloc: Global, dbd: &Dbd) -> Result<(), Stop> {
+        for segment in dbd.types() {
+            let file = self.file_of(alloc, segment)?;
+            drop(Output::open(self.rt, alloc, self.wanted(&file), &self.inputs)?);
+        }
+        Ok(())
+    }
 }
 
 /// Why a table was not written: a write to its file that the system refused, or else what the volume is refused for.
@@ -86,19 +113,12 @@ fn write_table<S: BlockStore, R: Files<File = File>>(
     requires { (volume.old.size ≡ dbd.now.block_size) × (volume.old.sizes ≡ stored_sizes dbd.now.types) }
     ensures sizes { (volume.new.size ≡ volume.old.size) × (volume.new.sizes ≡ volume.old.sizes) }
 {
-    let (place, name) = (folder.name, text_of(&segment.name));
-    let file = format!(in alloc; "{place}/{name}.csv")?;
-    let wanted = Wanted {
-        name: &file,
-        word: Named::Out,
-        is_read: false,
-        syncs: folder.syncs,
-    };
+    let file = folder.file_of(alloc, segment)?;
     let shape = Shape {
         form: Form::Table(code),
         values: folder.values,
     };
-    let mut output = Output::open(folder.rt, alloc, wanted, &folder.inputs)?;
+    let mut output = Output::open(folder.rt, alloc, folder.wanted(&file), &folder.inputs)?;
     fill_whole(alloc, volume, dbd, shape, &mut output)
 }
 
@@ -177,7 +197,7 @@ fn write_file<R: Files<File = File>>(
 
 /// Checks the volume in a file, which is opened for reading alone, and writes into a folder a table of each type as CSV, in a file that has the name of its type and
 /// the ending `.csv`, with values as bytes, or by the TYPEs of their fields. The DBD is read and judged first, then the volume is opened; it is checked before
-/// each table. A table takes the place of another file only when it is whole; where a later one fails, those before it stay. Says how many there are, and how
+/// each table. First it is seen that each file can be written. A table takes the place of another file only when it is whole; where a later one fails, those before it stay. Says how many there are, and how
 /// many segments they have together.
 pub fn list_tables<R, P, O, E>(
     console: &mut Console<'_, R, P, O, E>,
@@ -204,6 +224,7 @@ where
         syncs,
         inputs: [source, image],
     };
+    folder.be_writable(alloc, &dbd)?;
     let cache = cache.unwrap_or(CACHE);
     let segments = write_file(alloc, &dbd, file, &folder, cache)?;
     let tables = dbd.types().len();
