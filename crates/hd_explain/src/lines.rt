@@ -236,6 +236,13 @@ pub const LINES: &[Explanation] = &[
         text: "The volume passed, and the copy has every block of it, so many, and has its name. The status is 0.",
     },
     Entry {
+        word: "wrote",
+        kind: Kind::Line,
+        summary: "a table for each type was written",
+        text: "The volume passed, and the folder has a table for each segment type, with all segments of the volume.\n\
+               hd stream --csv takes the folder. The status is 0.",
+    },
+    Entry {
         word: "made a stream",
         kind: Kind::Line,
         summary: "an unload stream was made of rows or tables",

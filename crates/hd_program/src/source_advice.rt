@@ -232,7 +232,8 @@ fn advise_statement<E: Write>(
     };
     let culprit = culprit_of(alloc, fault, dbd, &statements);
     if let Some(culprit) = culprit {
-        put_line(text.name, culprit.statement.line, text.source, ink);
+        let statement = culprit.statement;
+        put_line(text.name, statement.line, text.source, ink);
     } else {
         ink.name(text.name);
         ink.put("\n");
