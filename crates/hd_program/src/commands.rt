@@ -14,11 +14,13 @@ use crate::show_command::{show_database, show_volume};
 use crate::sights::see_refused;
 use crate::stop::{COMMAND_LINE, Stop};
 use crate::stream_command::{make_of_rows, make_of_tables};
+use crate::tables_command::list_tables;
 use crate::unload_command::unload_file;
 use clap::error::ErrorKind;
 use hd_commands::{Ended, Refusal};
 use hd_files::{Named, Watched};
 use hd_output::{Progress, Unmixed};
+use hd_rows::Values;
 use hd_words::{Explains, Request, read_words};
 use std::alloc::Global;
 use std::fs::File;
@@ -256,24 +258,74 @@ where
             dbd,
             volume,
             table,
+            folder: None,
+            is_typed,
             cache,
-        } => list_rows(console, dbd, volume, table, cache),
+            ..
+        } => list_rows(console, dbd, volume, table, values_of(is_typed), cache),
+        Request::Rows {
+            dbd,
+            volume,
+            folder: Some(folder),
+            is_typed,
+            cache,
+            syncs,
+            ..
+        } => {
+            let values = values_of(is_typed);
+            list_tables(console, dbd, volume, folder, values, cache, syncs)
+        }
         Request::Stream {
             dbd,
             rows,
             out: stream,
             is_tables: false,
+            is_typed,
             syncs,
-        } => make_of_rows(rt, alloc, dbd, rows, stream, syncs, &mut *console.out),
+        } => {
+            let values = values_of(is_typed);
+            make_of_rows(
+                rt,
+                alloc,
+                dbd,
+                rows,
+                stream,
+                values,
+                syncs,
+                &mut *console.out,
+            )
+        }
         Request::Stream {
             dbd,
             rows,
             out: stream,
             is_tables: true,
+            is_typed,
             syncs,
-        } => make_of_tables(rt, alloc, dbd, rows, stream, syncs, &mut *console.out),
+        } => {
+            let values = values_of(is_typed);
+            make_of_tables(
+                rt,
+                alloc,
+                dbd,
+                rows,
+                stream,
+                values,
+                syncs,
+                &mut *console.out,
+            )
+        }
         Request::Operands { source } => list_operands(rt, alloc, source, &mut *console.out),
         Request::Explain { word } => explain_word(word, &mut *console.out, &mut *console.err),
+    }
+}
+
+/// How values are written and read.
+fn values_of(is_typed: bool) -> Values {
+    if is_typed {
+        Values::Typed
+    } else {
+        Values::Bytes
     }
 }
 

@@ -19,6 +19,7 @@ mod orphans;
 mod places;
 mod recover_command;
 mod reload_command;
+mod row_advice;
 mod rows_command;
 mod salvage_command;
 mod sample;
@@ -28,6 +29,7 @@ mod sights;
 mod source_advice;
 mod stop;
 mod stream_command;
+mod tables_command;
 mod unload_command;
 mod volume_store;
 

@@ -3,7 +3,7 @@ use hd_commands::Refusal;
 use hd_dbd::Dbd;
 use hd_files::{FileFault, Identity, Named, Output, Wanted, Watched};
 use hd_output::Pieces;
-use hd_rows::{Form, RowWriter};
+use hd_rows::{Form, RowWriter, Values};
 use hd_salvage::{Lost, Record, SalvageFault, order_lost, write_lost};
 use hd_stores::BlockStore;
 use hd_volume::Volume;
@@ -72,7 +72,7 @@ fn put_text<S: BlockStore, W: Write>(
     lost: &Lost,
     out: &mut W,
 ) -> Result<(), Stop> {
-    match RowWriter::new(alloc, dbd, Form::Rows, out) {
+    match RowWriter::new(alloc, dbd, Form::Rows, Values::Bytes, out) {
         Ok(rows) => put_rows(volume, dbd, lost, rows),
         Err(_) => Err(Stop::from(Refusal::Memory)),
     }

@@ -10,7 +10,7 @@ use hd_commands::{Ended, Refusal, refuse};
 use hd_dbd::Dbd;
 use hd_files::{Watched, cached, file_blocks};
 use hd_output::{Pieces, Progress};
-use hd_rows::{Form, RowWriter, code_named};
+use hd_rows::{Form, RowWriter, Values, code_named};
 use hd_stores::{BlockStore, RunStore};
 use hd_unload::{UnloadFault, unload};
 use hd_volume::Volume;
@@ -20,6 +20,13 @@ use std::io::{self, ErrorKind, Write};
 use std::marker::Brand;
 use std::rt::Files;
 use std::sync::ledger::{Blank, Ledger};
+
+/// How rows are written, and their values.
+#[derive(Clone, Copy)]
+pub struct Shape {
+    pub form: Form,
+    pub values: Values,
+}
 
 /// Why the rows of a volume were not written: a writer of rows that finds no memory for one refuses a write.
 fn refusal_of(fault: UnloadFault, said: Option<io::Error>) -> Refusal {
@@ -31,36 +38,38 @@ fn refusal_of(fault: UnloadFault, said: Option<io::Error>) -> Refusal {
     }
 }
 
-/// Checks a volume, and writes its stream to a writer of rows.
+/// Checks a volume, and writes its stream to a writer of rows; says how many segments it has.
 fn unload_into<S: BlockStore, W: Write + Drop>(
     alloc: Global,
     volume: &mut Volume<S>,
     dbd: &Dbd,
     rows: W,
-) -> Result<(), Refusal>
+) -> Result<u32, Refusal>
     requires { (volume.old.size ≡ dbd.now.block_size) × (volume.old.sizes ≡ stored_sizes dbd.now.types) }
+    ensures sizes { (volume.new.size ≡ volume.old.size) × (volume.new.sizes ≡ volume.old.sizes) }
 {
     let mut rows = Watched::over(rows);
     match unload(alloc, volume, dbd, &mut rows) {
-        Ok(_) => Ok(()),
+        Ok(segments) => Ok(segments),
         Err(fault) => Err(refusal_of(fault, rows.last_error())),
     }
 }
 
-/// Checks a volume, and writes its rows as text.
-fn write_rows<S: BlockStore, O: Write>(
+/// Checks a volume, and writes its rows as text, or those of a type; says how many segments it has.
+pub fn write_rows<S: BlockStore, O: Write>(
     alloc: Global,
     volume: &mut Volume<S>,
     dbd: &Dbd,
-    form: Form,
+    shape: Shape,
     out: &mut O,
-) -> Result<(), Refusal>
+) -> Result<u32, Refusal>
     requires { (volume.old.size ≡ dbd.now.block_size) × (volume.old.sizes ≡ stored_sizes dbd.now.types) }
+    ensures sizes { (volume.new.size ≡ volume.old.size) × (volume.new.sizes ≡ volume.old.sizes) }
 {
     let Ok(mut lines) = Pieces::new(alloc, out) else {
         return Err(Refusal::Memory);
     };
-    match RowWriter::new(alloc, dbd, form, &mut lines) {
+    match RowWriter::new(alloc, dbd, shape.form, shape.values, &mut lines) {
         Ok(rows) => unload_into(alloc, volume, dbd, rows),
         Err(_) => Err(Refusal::Memory),
     }
@@ -71,15 +80,15 @@ fn list<S: BlockStore + Drop, O: Write, E: Write>(
     alloc: Global,
     dbd: &Dbd,
     store: S,
-    form: Form,
+    shape: Shape,
     out: &mut O,
     err: &mut E,
 ) -> Result<Ended, Stop>
     requires { S.size store ≡ dbd.now.block_size }
 {
     let mut volume = load_volume(alloc, dbd, store)?;
-    match write_rows(alloc, &mut volume, dbd, form, out) {
-        Ok(()) => Ok(Ended::with_status(0)),
+    match write_rows(alloc, &mut volume, dbd, shape, out) {
+        Ok(_) => Ok(Ended::with_status(0)),
         Err(refusal) => Ok(refuse(refusal, err)),
     }
 }
@@ -89,7 +98,7 @@ fn list_cached<S: RunStore + Drop, O: Write, E: Write>(
     alloc: Global,
     dbd: &Dbd,
     store: S,
-    form: Form,
+    shape: Shape,
     cache: u32,
     out: &mut O,
     err: &mut E,
@@ -97,7 +106,7 @@ fn list_cached<S: RunStore + Drop, O: Write, E: Write>(
     requires { S.size store ≡ dbd.now.block_size }
 {
     let store = cached(alloc, store, cache)?;
-    list(alloc, dbd, store, form, out, err)
+    list(alloc, dbd, store, shape, out, err)
 }
 
 /// Checks the volume in a file, and writes its rows as text, with a ledger for the accesses that fail.
@@ -105,7 +114,7 @@ fn list_blocks<L: Ledger, O: Write, E: Write>(
     alloc: Global,
     dbd: &Dbd,
     file: File,
-    form: Form,
+    shape: Shape,
     cache: u32,
     blank: Blank,
     out: &mut O,
@@ -116,7 +125,7 @@ fn list_blocks<L: Ledger, O: Write, E: Write>(
     requires share { 0 < blank.parts }
 {
     let store = file_blocks::<L>(dbd, file, blank)?;
-    list_cached(alloc, dbd, store, form, cache, out, err)
+    list_cached(alloc, dbd, store, shape, cache, out, err)
 }
 
 /// As `list_blocks`, with a ledger of its own.
@@ -124,21 +133,22 @@ fn list_file<O: Write, E: Write>(
     alloc: Global,
     dbd: &Dbd,
     file: File,
-    form: Form,
+    shape: Shape,
     cache: u32,
     out: &mut O,
     err: &mut E,
 ) -> Result<Ended, Stop> {
-    list_blocks::<Brand, O, E>(alloc, dbd, file, form, cache, Blank::new(1), out, err)
+    list_blocks::<Brand, O, E>(alloc, dbd, file, shape, cache, Blank::new(1), out, err)
 }
 
 /// Checks the volume in a file, which is opened for reading alone, and writes its rows in hierarchic sequence, a line each; or those of one
-/// type as CSV. The DBD is read and judged first. Nothing is written before the volume has passed.
+/// type as CSV, with values as bytes, or by the TYPEs of their fields. The DBD is read and judged first. Nothing is written before the volume has passed.
 pub fn list_rows<R, P, O, E>(
     console: &mut Console<'_, R, P, O, E>,
     dbd: &str,
     volume: &str,
     table: Option<&str>,
+    values: Values,
     cache: Option<u32>,
 ) -> Result<Ended, Stop>
 where
@@ -156,13 +166,14 @@ where
         },
         None => Form::Rows,
     };
+    let shape = Shape { form, values };
     let (file, _) = open_to_read(console, volume)?;
     let cache = cache.unwrap_or(CACHE);
     list_file(
         alloc,
         &dbd,
         file,
-        form,
+        shape,
         cache,
         &mut *console.out,
         &mut *console.err,

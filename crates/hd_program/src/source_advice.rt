@@ -91,7 +91,9 @@ fn advise_line<E: Write>(
     };
     put_entry(entry, ink);
     if let LineFault::M4(_) = fault {
-        put_unread(line_at(text.source, line), column, ink);
+        if column > 0 {
+            put_unread(line_at(text.source, line), column, ink);
+        }
     }
     put_more(entry, ink);
 }

@@ -5,7 +5,8 @@ use hd_dbd::{Dbd, Name8, SegType};
 use hd_files::{FileFault, Identity, Named, Output, Wanted, Watched, read_file, read_whole};
 use hd_output::Pieces;
 use hd_rows::{
-    RowFault, TextFault, code_named, column_name, header_of, stream_of_rows, stream_of_tables,
+    RowFault, TextFault, Values, code_named, column_name, header_of, stream_of_rows,
+    stream_of_tables,
 };
 use std::alloc::{AllocError, Global};
 use std::fs::File;
@@ -50,23 +51,26 @@ fn write_rows<W: Write>(
     alloc: Global,
     dbd: &Dbd,
     text: &[u8],
+    values: Values,
     stream: &mut W,
 ) -> Result<u32, TextFault> {
     let Ok(mut records) = Pieces::new(alloc, stream) else {
         return Err(TextFault::Memory);
     };
-    let made = stream_of_rows(alloc, dbd, text, &mut records);
+    let made = stream_of_rows(alloc, dbd, text, values, &mut records);
     handed_on(made, &mut records)
 }
 
 /// Makes an unload stream, in a file, of a text of rows in another. The DBD is read and judged first, then the text is read, then the
-/// stream's file is opened; only when the whole stream is written does it take the place of that file. Says how many segments the stream has.
+/// stream's file is opened; only when the whole stream is written does it take the place of that file. Values are bytes, or are read by the TYPEs of
+/// their fields. Says how many segments the stream has.
 pub fn make_of_rows<R, O>(
     rt: &R,
     alloc: Global,
     dbd: &str,
     rows: &str,
     stream: &str,
+    values: Values,
     syncs: bool,
     out: &mut O,
 ) -> Result<Ended, Stop>
@@ -78,7 +82,7 @@ where
     let (text, given) = read_file(rt, alloc, rows, Named::Rows)?;
     let mut output = Output::open(rt, alloc, wanted(stream, syncs), &[source, given])?;
     let mut file = Watched::over(&mut output);
-    let made = write_rows(alloc, &dbd, &text, &mut file);
+    let made = write_rows(alloc, &dbd, &text, values, &mut file);
     let said = file.last_error();
     drop(file);
     match made {
@@ -274,12 +278,13 @@ fn write_tables<W: Write>(
     alloc: Global,
     dbd: &Dbd,
     tables: &[(u8, &[u8])],
+    values: Values,
     stream: &mut W,
 ) -> Result<u32, TextFault> {
     let Ok(mut records) = Pieces::new(alloc, stream) else {
         return Err(TextFault::Memory);
     };
-    let made = stream_of_tables(alloc, dbd, tables, &mut records);
+    let made = stream_of_tables(alloc, dbd, tables, values, &mut records);
     handed_on(made, &mut records)
 }
 
@@ -291,6 +296,7 @@ pub fn make_of_tables<R, O>(
     dbd: &str,
     folder: &str,
     stream: &str,
+    values: Values,
     syncs: bool,
     out: &mut O,
 ) -> Result<Ended, Stop>
@@ -303,7 +309,7 @@ where
     let mut output = Output::open(rt, alloc, wanted(stream, syncs), &tables.files)?;
     let pairs = pairs_of(alloc, &tables)?;
     let mut file = Watched::over(&mut output);
-    let made = write_tables(alloc, &dbd, &pairs, &mut file);
+    let made = write_tables(alloc, &dbd, &pairs, values, &mut file);
     let said = file.last_error();
     drop(file);
     drop(pairs);

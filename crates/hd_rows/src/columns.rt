@@ -69,6 +69,7 @@ fn column_of_key(key: Part, part: Part, start: u32) -> Option<Column> {
             name: None,
             start,
             length: key.length,
+            data_type: part.data_type,
             is_open: false,
         },
         is_key: true,

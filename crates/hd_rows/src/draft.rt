@@ -2,7 +2,8 @@ use crate::fault::RowFault;
 use crate::part::Part;
 use std::alloc::{AllocError, Global};
 
-/// A segment while its values are read: its bytes, which of them a value gave, and where the last of these ends. The others are blanks.
+/// A segment while its values are read: its bytes, which of them a value gave, and where the last of these ends. The others are blanks, or those with which
+/// it was filled.
 #[derive(Drop)]
 pub struct Draft {
     bytes: Vec<u8>,
@@ -32,6 +33,13 @@ impl Draft {
         self.is_given.clear();
         self.bytes.resize(length, b' ')?;
         self.is_given.resize(length, false)
+    }
+
+    /// Makes its bytes, of which none is given yet, those of another segment, as far as these go.
+    pub fn fill(&mut self, filling: &[u8]) {
+        for (byte, filled) in self.bytes.iter_mut().zip(filling) {
+            *byte = *filled;
+        }
     }
 
     /// Gives the byte at a place.

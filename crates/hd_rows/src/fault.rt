@@ -31,6 +31,8 @@ pub enum RowFault {
     Missing,
     /// No row has the keys that a record names as those of its parents.
     Orphan,
+    /// A value of a field that holds numbers is none, or has no room in it.
+    Number,
 }
 
 impl fmt::Display for RowFault {
@@ -49,6 +51,7 @@ impl fmt::Display for RowFault {
             RowFault::Nameless => "a type above it has no unique key",
             RowFault::Missing => "no column for the key of a type above",
             RowFault::Orphan => "no parent of these keys",
+            RowFault::Number => "no number that the field can hold",
         })
     }
 }

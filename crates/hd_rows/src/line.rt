@@ -1,28 +1,36 @@
 use crate::draft::Draft;
 use crate::fault::{RowFault, Wrong};
 use crate::naming::code_named;
-use crate::part::part_named;
+use crate::number::{holds_numbers, read_number};
+use crate::part::{Part, part_named};
+use crate::typed::{Values, begins_with_escape, fill_segment};
 use crate::value::read_value;
 use hd_dbd::{Dbd, SegType};
 use hd_lines::unpadded;
 use memchr::memchr;
-use std::alloc::Global;
+use std::alloc::{AllocError, Global};
 
 /// A reader of the lines of rows, with what it needs again for each line.
 #[derive(Drop)]
 pub struct LineReader<'a> {
     dbd: &'a Dbd,
+    values: Values,
     draft: Draft,
     value: Vec<u8>,
+    number: Vec<u8>,
+    filling: Vec<u8>,
 }
 
 impl<'a> LineReader<'a> {
     /// A reader of a database's rows.
-    pub fn new(alloc: Global, dbd: &'a Dbd) -> LineReader<'a> {
+    pub fn new(alloc: Global, dbd: &'a Dbd, values: Values) -> LineReader<'a> {
         LineReader {
             dbd,
+            values,
             draft: Draft::new(alloc),
             value: Vec::new(alloc),
+            number: Vec::new(alloc),
+            filling: Vec::new(alloc),
         }
     }
 
@@ -39,14 +47,36 @@ impl<'a> LineReader<'a> {
         let Some(part) = part_named(segment, &text[..end]) else {
             return Err(Wrong::Row(RowFault::Part));
         };
-        let behind = read_value(&text[end + 1..], &mut self.value)?;
-        self.draft.put(part, &self.value)?;
+        let given = &text[end + 1..];
+        let behind = read_value(given, &mut self.value)?;
+        self.put(part, begins_with_escape(given))?;
         Ok(behind)
+    }
+
+    /// Gives the bytes of a part that the value spells which was read last, and which begins with an escape or not.
+    fn put(&mut self, part: Part, is_escaped: bool) -> Result<(), Wrong> {
+        if self.values == Values::Bytes || is_escaped || !holds_numbers(&part) {
+            self.draft.put(part, &self.value)?;
+            return Ok(());
+        }
+        read_number(&part, &self.value, &mut self.number)?;
+        self.draft.put(part, &self.number)?;
+        Ok(())
+    }
+
+    /// Begins a segment of a type.
+    fn begin(&mut self, segment: &SegType) -> Result<(), AllocError> {
+        self.draft.begin(segment.length as usize)?;
+        if self.values == Values::Typed {
+            fill_segment(segment, &mut self.filling)?;
+            self.draft.fill(&self.filling);
+        }
+        Ok(())
     }
 
     /// Reads the values of a segment of a type.
     fn read_values(&mut self, segment: &SegType, text: &[u8]) -> Result<(), Wrong> {
-        self.draft.begin(segment.length as usize)?;
+        self.begin(segment)?;
         self.read_parts(segment, text)?;
         if let Some(least) = segment.least {
             self.draft.end(least)?;

@@ -1,16 +1,17 @@
 use crate::naming::{name_of, without_padding};
-use hd_dbd::{Field, Key, Name8, SegType};
+use hd_dbd::{DataType, Field, Key, Name8, SegType};
 use itoa::Buffer;
 use memchr::memchr;
 use std::alloc::{AllocError, Global};
 
-/// Bytes of a segment that a text gives by one name: a field, or a range without a name. `start` counts from 0. An open range has as many
-/// bytes, at most `length`, as the segment has from there on.
+/// Bytes of a segment that a text gives by one name: a field, or a range without a name, whose bytes are of no TYPE but C. `start` counts from 0. An open
+/// range has as many bytes, at most `length`, as the segment has from there on.
 #[derive(Clone, Copy)]
 pub struct Part {
     pub name: Option<Name8>,
     pub start: u32,
     pub length: u32,
+    pub data_type: DataType,
     pub is_open: bool,
 }
 
@@ -26,11 +27,12 @@ pub fn bytes_at(bytes: &[u8], start: usize, length: usize) -> &[u8] {
 
 impl Part {
     /// The bytes of a field.
-    fn of_field(field: &Field) -> Part {
+    pub fn of_field(field: &Field) -> Part {
         Part {
             name: Some(field.name),
             start: field.start.saturating_sub(1),
             length: field.length,
+            data_type: field.data_type,
             is_open: false,
         }
     }
@@ -46,6 +48,7 @@ impl Part {
             name: None,
             start: key.start.saturating_sub(1),
             length: key.length,
+            data_type: DataType::Character,
             is_open: false,
         }
     }
@@ -92,6 +95,7 @@ fn range(from: u32, to: u32, is_open: bool) -> Option<Part> {
         name: None,
         start: from,
         length,
+        data_type: DataType::Character,
         is_open,
     })
 }

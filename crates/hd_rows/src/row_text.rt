@@ -1,5 +1,6 @@
 use crate::naming::without_padding;
 use crate::part::{Part, parts_of};
+use crate::typed::{Values, put_typed_value};
 use crate::value::{put_value, shown_part};
 use hd_dbd::{Dbd, SegType};
 use std::alloc::{AllocError, Global};
@@ -54,9 +55,18 @@ pub fn forms_of(alloc: Global, dbd: &Dbd) -> Result<Vec<LineForm>, AllocError> {
     Ok(forms)
 }
 
+/// Writes a part's bytes in a segment as the value of a line.
+fn put_part<W: Write>(out: &mut W, part: &Part, bytes: &[u8], values: Values) -> io::Result<()> {
+    match values {
+        Values::Bytes => put_value(out, shown_part(part, bytes)),
+        Values::Typed => put_typed_value(out, part, part.bytes_in(bytes)),
+    }
+}
+
 /// Writes the line of a row.
 pub fn put_line<W: Write>(
     forms: &[LineForm],
+    values: Values,
     code: u8,
     bytes: &[u8],
     out: &mut W,
@@ -68,7 +78,7 @@ pub fn put_line<W: Write>(
     out.write_all(&form.head)?;
     for labelled in &form.parts {
         out.write_all(&labelled.label)?;
-        put_value(out, shown_part(&labelled.part, bytes))?;
+        put_part(out, &labelled.part, bytes, values)?;
     }
     out.write_all(b"\n")
 }

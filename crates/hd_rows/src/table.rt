@@ -8,6 +8,7 @@ use crate::mark::without_mark;
 use crate::part::bytes_at;
 use crate::rows::Rows;
 use crate::text::line_at;
+use crate::typed::{Cells, Values};
 use hd_dbd::{Dbd, Key};
 use std::alloc::{AllocError, Global};
 
@@ -24,19 +25,21 @@ pub struct TableReader<'a> {
     record: Record,
 }
 
-/// A record while its cells are read: the column whose cell is read, that cell, the keys of its parents, and its segment.
+/// A record while its cells are read: the column whose cell is read, that cell, the keys of its parents, its segment, and how its cells are read.
 #[derive(Drop)]
 struct Record {
     column: Option<usize>,
     cell: Vec<u8>,
     keys: Draft,
     segment: Draft,
+    cells: Cells,
 }
 
 impl Record {
     /// Begins a record of keys and a segment of so many bytes.
     fn begin(&mut self, keys_length: u32, length: u32) -> Result<(), AllocError> {
         self.segment.begin(length as usize)?;
+        self.cells.fill(&mut self.segment);
         self.keys.begin(keys_length as usize)
     }
 
@@ -44,9 +47,9 @@ impl Record {
     fn take_cell<'t>(&mut self, column: &Column, text: &'t [u8]) -> Result<Behind<'t>, Wrong> {
         let behind = read_cell(text, &mut self.cell)?;
         if column.is_key {
-            self.keys.put(column.part, &self.cell)?;
+            self.cells.put(column.part, &self.cell, &mut self.keys)?;
         } else {
-            self.segment.put(column.part, &self.cell)?;
+            self.cells.put(column.part, &self.cell, &mut self.segment)?;
         }
         Ok(behind)
     }
@@ -93,6 +96,7 @@ impl<'a> TableReader<'a> {
                 cell: Vec::new(alloc),
                 keys: Draft::new(alloc),
                 segment: Draft::new(alloc),
+                cells: Cells::bytes(alloc),
             },
         }
     }
@@ -110,9 +114,8 @@ impl<'a> TableReader<'a> {
     /// The place of the column that a fault is of: that which is read, or that of a key.
     fn column_of(&self, fault: RowFault) -> Option<usize> {
         match fault {
-            RowFault::Part | RowFault::Length | RowFault::Differs | RowFault::Value => {
-                self.record.column
-            }
+            RowFault::Part | RowFault::Length | RowFault::Differs => self.record.column,
+            RowFault::Value | RowFault::Number => self.record.column,
             RowFault::Orphan => nearest_key(&self.columns),
             RowFault::Equal => {
                 let key = self.key?;
@@ -209,15 +212,19 @@ impl<'a> TableReader<'a> {
     }
 }
 
-/// Reads a table of a type, and adds its rows, up to the first record with a fault. Their parents are not known yet.
+/// Reads a table of a type, whose values are written so, and adds its rows, up to the first record with a fault. Their parents are not known yet.
 pub fn read_table<'a>(
     alloc: Global,
     dbd: &Dbd,
     code: u8,
     text: &'a [u8],
+    values: Values,
     rows: &mut Rows,
 ) -> Result<TableReader<'a>, TextFault> {
     let mut table = TableReader::new(alloc, dbd, code, text);
+    if let (Values::Typed, Some(segment)) = (values, dbd.type_of(code)) {
+        table.record.cells.be_typed(segment)?;
+    }
     let left = without_ends(without_mark(text));
     if left.is_empty() {
         return Ok(table);

@@ -1,6 +1,7 @@
 use crate::above::{Above, keys_above};
 use crate::naming::without_padding;
 use crate::part::{Part, columns_of};
+use crate::typed::{Values, put_typed_cell};
 use crate::value::{shown, shown_part};
 use csv::Writer;
 use hd_dbd::Dbd;
@@ -51,6 +52,37 @@ fn put_line_end(cells: &mut Writer<&mut Vec<u8>>) -> Result<(), AllocError> {
     Err(AllocError)
 }
 
+/// Writes a part's bytes as a cell of a line of CSV, by the TYPE of its field.
+fn put_typed(
+    cells: &mut Writer<&mut Vec<u8>>,
+    part: &Part,
+    own: &[u8],
+    cell: &mut Vec<u8>,
+) -> Result<(), AllocError> {
+    cell.clear();
+    match put_typed_cell(cell, part, own) {
+        Ok(()) => put_cell(cells, cell),
+        Err(_) => Err(AllocError),
+    }
+}
+
+/// Writes the cells of a row of a table, by the TYPEs of their fields.
+fn put_typed_cells(
+    cells: &mut Writer<&mut Vec<u8>>,
+    kept: &[Kept],
+    columns: &[Part],
+    bytes: &[u8],
+    cell: &mut Vec<u8>,
+) -> Result<(), AllocError> {
+    for kept in kept {
+        put_typed(cells, &kept.above.key, &kept.key, cell)?;
+    }
+    for part in columns {
+        put_typed(cells, part, part.bytes_in(bytes), cell)?;
+    }
+    put_line_end(cells)
+}
+
 /// Writes the cells of a row of a table.
 fn put_cells(
     cells: &mut Writer<&mut Vec<u8>>,
@@ -77,6 +109,19 @@ fn csv_line(
     line.clear();
     let mut cells = Writer::from_writer(line);
     put_cells(&mut cells, kept, columns, bytes)
+}
+
+/// A row of a table as a line of CSV, by the TYPEs of its fields.
+fn typed_line(
+    line: &mut Vec<u8>,
+    kept: &[Kept],
+    columns: &[Part],
+    bytes: &[u8],
+    cell: &mut Vec<u8>,
+) -> Result<(), AllocError> {
+    line.clear();
+    let mut cells = Writer::from_writer(line);
+    put_typed_cells(&mut cells, kept, columns, bytes, cell)
 }
 
 /// A comma behind the name before, if there is one.
@@ -110,6 +155,8 @@ pub struct Table {
     kept: Vec<Kept>,
     columns: Vec<Part>,
     line: Vec<u8>,
+    values: Values,
+    cell: Vec<u8>,
 }
 
 impl Table {
@@ -125,7 +172,15 @@ impl Table {
             kept,
             columns,
             line: Vec::new(alloc),
+            values: Values::Bytes,
+            cell: Vec::new(alloc),
         })
+    }
+
+    /// The same table with values that are written so.
+    pub fn with_values(mut self, values: Values) -> Table {
+        self.values = values;
+        self
     }
 
     /// Writes the line of the columns' names: the keys above, and the parts of the type, of which one whose segments are two bytes has none.
@@ -152,8 +207,22 @@ impl Table {
         if code != self.code {
             return self.keep_key(code, bytes);
         }
-        csv_line(&mut self.line, &self.kept, &self.columns, bytes)?;
+        self.make_line(bytes)?;
         out.write_all(&self.line)
+    }
+
+    /// Makes the line of a row.
+    fn make_line(&mut self, bytes: &[u8]) -> Result<(), AllocError> {
+        match self.values {
+            Values::Bytes => csv_line(&mut self.line, &self.kept, &self.columns, bytes),
+            Values::Typed => typed_line(
+                &mut self.line,
+                &self.kept,
+                &self.columns,
+                bytes,
+                &mut self.cell,
+            ),
+        }
     }
 }
 

@@ -3,6 +3,7 @@ use crate::parents::find_parents;
 use crate::rows::{Row, Rows, key_length};
 use crate::source::{Source, write_rows};
 use crate::table::{TableReader, read_table};
+use crate::typed::Values;
 use hd_dbd::Dbd;
 use std::alloc::Global;
 use std::io::Write;
@@ -71,13 +72,14 @@ fn read_type<'a>(
     dbd: &Dbd,
     code: u8,
     tables: &[(u8, &'a [u8])],
+    values: Values,
     rows: &mut Rows,
     readers: &mut Vec<TableReader<'a>>,
 ) -> Result<(), TextFault> {
     for table in tables {
         if table.0 == code {
             let first = rows.rows.len();
-            let reader = read_table(alloc, dbd, code, table.1, rows)?;
+            let reader = read_table(alloc, dbd, code, table.1, values, rows)?;
             place_rows(alloc, dbd, rows, first, &reader)?;
             readers.push(reader)?;
         }
@@ -113,11 +115,13 @@ fn has_table(tables: &[(u8, &[u8])], code: u8) -> bool {
 ///
 /// Each table is CSV, given with the code of its type, and has a line of the columns' names as `Form::Table` writes it, in any order. A
 /// row's parents are those of the keys in the columns `TYPE.KEY`. Rows are sorted as those of `stream_of_rows`, and the tables may stand
-/// in any order; they are read in that of their types, and then a second time. Where one has a fault nothing is written.
+/// in any order; they are read in that of their types, and then a second time. Values are bytes, or are read by the TYPEs of their fields.
+/// Where a table has a fault nothing is written.
 pub fn stream_of_tables<W: Write>(
     alloc: Global,
     dbd: &Dbd,
     tables: &[(u8, &[u8])],
+    values: Values,
     out: &mut W,
 ) -> Result<u32, TextFault> {
     if let Some(fault) = tables_fault(dbd, tables) {
@@ -127,7 +131,7 @@ pub fn stream_of_tables<W: Write>(
     let mut readers = Vec::new(alloc);
     for code in 1..=u8::MAX {
         if rows.fault.is_none() {
-            read_type(alloc, dbd, code, tables, &mut rows, &mut readers)?;
+            read_type(alloc, dbd, code, tables, values, &mut rows, &mut readers)?;
         }
     }
     let mut source = TableTexts { tables: readers };

@@ -4,6 +4,7 @@ use crate::mark::without_mark;
 use crate::part::bytes_at;
 use crate::rows::{Row, Rows};
 use crate::source::{Source, write_rows};
+use crate::typed::Values;
 use hd_dbd::Dbd;
 use hd_lines::{next_line, unpadded};
 use std::alloc::Global;
@@ -109,10 +110,10 @@ fn read_line(
 }
 
 /// Reads the rows of a text, up to the first line with a fault.
-fn read_text(alloc: Global, dbd: &Dbd, text: &[u8]) -> Result<Rows, TextFault> {
+fn read_text(alloc: Global, dbd: &Dbd, text: &[u8], values: Values) -> Result<Rows, TextFault> {
     let mut rows = Rows::new(alloc);
     let mut path = Vec::new(alloc);
-    let mut reader = LineReader::new(alloc, dbd);
+    let mut reader = LineReader::new(alloc, dbd, values);
     let mut left = without_mark(text);
     for count in 0..text.len() {
         if left.is_empty() {
@@ -134,18 +135,19 @@ fn read_text(alloc: Global, dbd: &Dbd, text: &[u8]) -> Result<Rows, TextFault> {
 
 /// Writes the unload stream of the rows that a text spells, a line each, and says how many they are.
 ///
-/// Twins may stand in any order and the types below a row too: they are sorted. The text is read twice. Where a line has a fault nothing
-/// is written.
+/// Twins may stand in any order and the types below a row too: they are sorted. Values are bytes, or are read by the TYPEs of their
+/// fields. The text is read twice. Where a line has a fault nothing is written.
 pub fn stream_of_rows<W: Write>(
     alloc: Global,
     dbd: &Dbd,
     text: &[u8],
+    values: Values,
     out: &mut W,
 ) -> Result<u32, TextFault> {
-    let rows = read_text(alloc, dbd, text)?;
+    let rows = read_text(alloc, dbd, text, values)?;
     let mut source = RowText {
         text,
-        reader: LineReader::new(alloc, dbd),
+        reader: LineReader::new(alloc, dbd, values),
     };
     write_rows(alloc, dbd, &rows, &mut source, out)
 }

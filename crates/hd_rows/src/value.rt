@@ -42,6 +42,11 @@ fn hex_digit(number: u8) -> u8 {
     }
 }
 
+/// Writes a byte by its two hexadecimal digits.
+pub fn put_hexadecimal<W: Write>(out: &mut W, byte: u8) -> io::Result<()> {
+    out.write_all(&[b'\\', b'x', hex_digit(byte / 16), hex_digit(byte % 16)])
+}
+
 /// Writes a byte of a value.
 fn put_byte<W: Write>(out: &mut W, byte: u8) -> io::Result<()> {
     if is_plain(byte) {
@@ -49,7 +54,7 @@ fn put_byte<W: Write>(out: &mut W, byte: u8) -> io::Result<()> {
     }
     match byte {
         b'"' | b'\\' => out.write_all(&[b'\\', byte]),
-        _ => out.write_all(&[b'\\', b'x', hex_digit(byte / 16), hex_digit(byte % 16)]),
+        _ => put_hexadecimal(out, byte),
     }
 }
 
@@ -64,7 +69,7 @@ fn are_plain(bytes: &[u8]) -> bool {
 }
 
 /// Writes the bytes of a value.
-fn put_bytes<W: Write>(out: &mut W, bytes: &[u8]) -> io::Result<()> {
+pub fn put_bytes<W: Write>(out: &mut W, bytes: &[u8]) -> io::Result<()> {
     if are_plain(bytes) {
         return out.write_all(bytes);
     }
@@ -75,7 +80,7 @@ fn put_bytes<W: Write>(out: &mut W, bytes: &[u8]) -> io::Result<()> {
 }
 
 /// Whether a value is empty, or has a blank or a quote.
-fn wants_quotes(value: &[u8]) -> bool {
+pub fn wants_quotes(value: &[u8]) -> bool {
     for byte in value {
         if *byte == b' ' || *byte == b'"' {
             return true;
@@ -157,6 +162,32 @@ fn next_step(left: &[u8], is_quoted: bool) -> Option<Step<'_>> {
         b'\\' => escaped_step(behind),
         _ => Some(Step::Byte(*byte, behind)),
     }
+}
+
+/// What comes next of a text in which a backslash alone stands not for itself; `None` at a bad escape.
+fn next_escaped(left: &[u8]) -> Option<Step<'_>> {
+    match left.split_first() {
+        None => Some(Step::End(left)),
+        Some((b'\\', behind)) => escaped_step(behind),
+        Some((byte, behind)) => Some(Step::Byte(*byte, behind)),
+    }
+}
+
+/// Makes the bytes that a text with escapes spells.
+pub fn read_escaped(text: &[u8], value: &mut Vec<u8>) -> Result<(), Wrong> {
+    value.clear();
+    let mut left = text;
+    for _ in 0..=text.len() {
+        match next_escaped(left) {
+            Some(Step::Byte(byte, behind)) => {
+                value.push(byte)?;
+                left = behind;
+            }
+            Some(Step::End(_)) => return Ok(()),
+            None => return Err(Wrong::Row(RowFault::Value)),
+        }
+    }
+    Err(Wrong::Row(RowFault::Value))
 }
 
 /// Reads the value at the front of a text; gives what follows it.

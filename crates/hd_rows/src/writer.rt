@@ -1,6 +1,7 @@
 use crate::part::bytes_at;
 use crate::row_text::{LineForm, forms_of, put_line};
 use crate::table_text::Table;
+use crate::typed::Values;
 use hd_dbd::{Dbd, Name8};
 use std::alloc::{AllocError, Global};
 use std::io::{self, ErrorKind, Write};
@@ -25,23 +26,31 @@ enum Stage {
 /// What is written of a row.
 #[derive(Drop)]
 enum Printer {
-    Rows(Vec<LineForm>),
+    Rows(Values, Vec<LineForm>),
     Table(Table),
 }
 
 impl Printer {
-    /// The printer of a form.
-    fn of_form(alloc: Global, dbd: &Dbd, form: Form) -> Result<Printer, AllocError> {
+    /// The printer of a form, of values that are written so.
+    fn of_form(
+        alloc: Global,
+        dbd: &Dbd,
+        form: Form,
+        values: Values,
+    ) -> Result<Printer, AllocError> {
         match form {
-            Form::Rows => Ok(Printer::Rows(forms_of(alloc, dbd)?)),
-            Form::Table(code) => Ok(Printer::Table(Table::new(alloc, dbd, code)?)),
+            Form::Rows => Ok(Printer::Rows(values, forms_of(alloc, dbd)?)),
+            Form::Table(code) => {
+                let table = Table::new(alloc, dbd, code)?;
+                Ok(Printer::Table(table.with_values(values)))
+            }
         }
     }
 
     /// Writes what stands before all rows.
     fn put_head<W: Write>(&mut self, out: &mut W) -> io::Result<()> {
         match self {
-            Printer::Rows(_) => Ok(()),
+            Printer::Rows(_, _) => Ok(()),
             Printer::Table(table) => table.put_names(out),
         }
     }
@@ -51,7 +60,7 @@ impl Printer {
         let code = record.first().copied().unwrap_or(0);
         let bytes = bytes_at(record, 3, record.len());
         match self {
-            Printer::Rows(forms) => put_line(forms, code, bytes, out),
+            Printer::Rows(values, forms) => put_line(forms, *values, code, bytes, out),
             Printer::Table(table) => table.put(code, bytes, out),
         }
     }
@@ -100,7 +109,7 @@ fn lengths_of(alloc: Global, dbd: &Dbd) -> Result<Vec<(u32, Option<u32>)>, Alloc
 }
 
 impl<'a, W: Write> RowWriter<'a, W> {
-    /// A writer of the rows of a database, in a form, to a writer below.
+    /// A writer of the rows of a database, in a form, to a writer below. Values are written as bytes, or by the TYPEs of their fields.
     ///
     /// What goes below is in small pieces: a writer with a buffer serves best. With the stream's end the
     /// writer below is flushed. A table's parents without a key have no column.
@@ -108,10 +117,11 @@ impl<'a, W: Write> RowWriter<'a, W> {
         alloc: Global,
         dbd: &Dbd,
         form: Form,
+        values: Values,
         out: &'a mut W,
     ) -> Result<RowWriter<'a, W>, AllocError> {
         let lengths = lengths_of(alloc, dbd)?;
-        let printer = Printer::of_form(alloc, dbd, form)?;
+        let printer = Printer::of_form(alloc, dbd, form, values)?;
         Ok(RowWriter {
             name: *dbd.name(),
             lengths,

@@ -2,7 +2,7 @@
 use crate::sources::{DBD, NOTES, ODD};
 use hd_dbd::Dbd;
 use hd_gen::read_dbd;
-use hd_rows::{Form, RowFault, RowWriter, TextFault, stream_of_tables};
+use hd_rows::{Form, RowFault, RowWriter, TextFault, Values, stream_of_tables};
 use std::alloc::Global;
 use std::io::Write;
 use std::test::Fail;
@@ -10,7 +10,7 @@ use std::test::Fail;
 /// The text of a stream, given to the writer in pieces of so many bytes; `None` where it is refused.
 fn text_of(alloc: Global, dbd: &Dbd, form: Form, stream: &[u8], piece: usize) -> Option<Vec<u8>> {
     let mut out = Vec::new(alloc);
-    let mut rows = RowWriter::new(alloc, dbd, form, &mut out).ok()?;
+    let mut rows = RowWriter::new(alloc, dbd, form, Values::Bytes, &mut out).ok()?;
     let mut left = stream;
     for _ in 0..stream.len() {
         let (front, behind) = left.split_at(piece.min(left.len()));
@@ -130,10 +130,10 @@ const TABLES: &[(u8, &[u8])] = &[
 fn makes_a_stream_of_tables_in_any_order(rt: HostRuntime) -> Result<(), Fail> {
     let dbd = read_dbd(rt.alloc(), DBD)?;
     let mut made = Vec::new(rt.alloc());
-    stream_of_tables(rt.alloc(), &dbd, TABLES, &mut made)?;
+    stream_of_tables(rt.alloc(), &dbd, TABLES, Values::Bytes, &mut made)?;
     assert_eq!(rt; made.as_slice(), STREAM);
     let mut none = Vec::new(rt.alloc());
-    stream_of_tables(rt.alloc(), &dbd, &[], &mut none)?;
+    stream_of_tables(rt.alloc(), &dbd, &[], Values::Bytes, &mut none)?;
     let stream = b"HDUNLOAD\0\x01EDU     \0\0\0\0\0";
     assert_eq!(rt; none.as_slice(), stream.as_slice());
     Ok(())
@@ -145,7 +145,7 @@ fn refuses_tables_of_no_type_and_of_one_twice(rt: HostRuntime) -> Result<(), Fai
     for (code, fault) in [(5u8, RowFault::Type), (1, RowFault::Twice)] {
         let tables: [(u8, &[u8]); 2] = [(1, b"NUM\n101\n205\n"), (code, b"")];
         let mut made = Vec::new(rt.alloc());
-        let refused = stream_of_tables(rt.alloc(), &dbd, &tables, &mut made).err();
+        let refused = stream_of_tables(rt.alloc(), &dbd, &tables, Values::Bytes, &mut made).err();
         assert_eq!(rt; refused, Some(TextFault::Table(fault, code, 1, None)));
     }
     Ok(())

@@ -1,6 +1,6 @@
 use hd_files::Named;
 
-/// What the words of the command line ask for. All of them but `blocks`, `cache`, `end_commits`, `syncs`, `table`, `is_tables` and `word` are names of files; `cache`
+/// What the words of the command line ask for. All of them but `blocks`, `cache`, `end_commits`, `syncs`, `table`, `is_tables`, `is_typed` and `word` are names of files; `cache`
 /// says how many blocks of the volume are kept in memory, if the words say it, and `syncs` whether to wait until what is written is on the disk.
 #[derive(Clone, Copy)]
 pub enum Request<'a> {
@@ -79,19 +79,23 @@ pub enum Request<'a> {
         cache: Option<u32>,
         syncs: bool,
     },
-    /// The rows of a volume, or those of one type as a table.
+    /// The rows of a volume, or those of one type as a table, or of each in a folder that is named for them; with values by the TYPEs of their fields, or as bytes.
     Rows {
         dbd: &'a str,
         volume: &'a str,
         table: Option<&'a str>,
+        folder: Option<&'a str>,
+        is_typed: bool,
         cache: Option<u32>,
+        syncs: bool,
     },
-    /// An unload stream of a text of rows, or of the tables in a folder.
+    /// An unload stream of a text of rows, or of the tables in a folder, whose values are read by the TYPEs of their fields, or as bytes.
     Stream {
         dbd: &'a str,
         rows: &'a str,
         out: &'a str,
         is_tables: bool,
+        is_typed: bool,
         syncs: bool,
     },
     /// The operands of a source.
@@ -116,7 +120,7 @@ struct Names<'a> {
     deck: &'a str,
     stream: &'a str,
     rows: &'a str,
-    /// The stream or the picture that is written.
+    /// The stream or the picture that is written, or the folder of tables.
     out: &'a str,
 }
 
@@ -176,9 +180,15 @@ impl<'a> Request<'a> {
                 volume,
                 ..
             } => Names::over(dbd, volume).with_psb(psb),
-            Request::Check { dbd, volume, .. }
-            | Request::Recover { dbd, volume, .. }
-            | Request::Rows { dbd, volume, .. } => Names::over(dbd, volume),
+            Request::Check { dbd, volume, .. } | Request::Recover { dbd, volume, .. } => {
+                Names::over(dbd, volume)
+            }
+            Request::Rows {
+                dbd,
+                volume,
+                folder,
+                ..
+            } => Names::over(dbd, volume).with_out(folder.unwrap_or("")),
             Request::Unload {
                 dbd,
                 volume,

@@ -47,6 +47,8 @@ pub enum Kind {
     Blocks,
     /// Any word behind an option, under the name that the help has for it; perhaps only beside the word that is named last.
     Behind(&'static str, &'static str, Option<&'static str>),
+    /// Any word behind an option, under the name that the help has for it; never beside the word that is named last.
+    BehindAlone(&'static str, &'static str, &'static str),
     /// A number of blocks behind an option, under the name that the help has for it.
     BlocksBehind(&'static str, &'static str),
     /// A number of calls behind an option, under the name that the help has for it.
@@ -125,6 +127,13 @@ const COMMIT_ON_REQUEST: Word = Word {
     name: "ONREQUEST",
     help: "Commit only what a request asks for: what was changed behind the last one is taken back where the input ends",
     kind: Kind::Flag("commit-on-request"),
+};
+
+/// That values are written and read by the TYPEs of their fields.
+const TYPED: Word = Word {
+    name: "TYPED",
+    help: "Write and read the fields of TYPE=P, F and H as numbers, and in CSV bytes that are no text as \\x12",
+    kind: Kind::Flag("types"),
 };
 
 /// The commands, in the order of the help.
@@ -293,7 +302,14 @@ const VERBS: &[Verb] = &[
                 help: "Write the segments of this type alone, as CSV, with the keys of their parents",
                 kind: Kind::Behind("csv", "TYPE", None),
             },
+            Word {
+                name: "FOLDER",
+                help: "Write a table for each type into this folder, as --csv writes it, in TYPE.csv",
+                kind: Kind::BehindAlone("tables", "FOLDER", "TYPE"),
+            },
+            TYPED,
             CACHE,
+            NO_SYNC,
         ],
     },
     Verb {
@@ -317,6 +333,7 @@ const VERBS: &[Verb] = &[
                 help: "IN is a folder with a table for each type, as hd rows --csv writes it, in TYPE.csv",
                 kind: Kind::Flag("csv"),
             },
+            TYPED,
             NO_SYNC,
         ],
     },

@@ -183,7 +183,10 @@ fn rows_of<'a>(given: &ArgMatches<'a>) -> Request<'a> {
         dbd: text_of(given, "DBD"),
         volume: text_of(given, "VOLUME"),
         table: given.get_str("TYPE"),
+        folder: given.get_str("FOLDER"),
+        is_typed: given.get_flag("TYPED"),
         cache: cache_of(given),
+        syncs: syncs_of(given),
     }
 }
 
@@ -193,6 +196,7 @@ fn stream_of<'a>(given: &ArgMatches<'a>) -> Request<'a> {
         rows: text_of(given, "IN"),
         out: text_of(given, "OUT"),
         is_tables: given.get_flag("TABLES"),
+        is_typed: given.get_flag("TYPED"),
         syncs: syncs_of(given),
     }
 }
@@ -216,6 +220,9 @@ fn arg_of<'a>(alloc: Global, word: &Word) -> Result<Arg<'a>, Error> {
         Kind::Behind(long, shown, None) => Ok(arg.long(long).value_name(shown)),
         Kind::Behind(long, shown, Some(other)) => {
             Ok(arg.long(long).value_name(shown).requires_arg(other)?)
+        }
+        Kind::BehindAlone(long, shown, other) => {
+            Ok(arg.long(long).value_name(shown).conflicts_with(other)?)
         }
         Kind::BlocksBehind(long, shown) => Ok(blocks(arg.long(long).value_name(shown))),
         Kind::CallsBehind(long, shown) => Ok(calls(arg.long(long).value_name(shown))),
