@@ -89,10 +89,8 @@ pub fn advise_stop<R: Files<File = File>, E: Write>(
                 put_types(request.name_of(Named::Dbd), &dbd, &mut ink);
             }
         }
-        Stop::OverInput => {
-            ink.name(request.name_of(written_by(request)));
-            ink.put(": the command reads it too; name another file for the result\n");
-        }
+        Stop::OverInput => put_over_input(request.name_of(written_by(request)), &mut ink),
+        Stop::OrphansOverInput => put_over_input(request.name_of(Named::Rows), &mut ink),
         Stop::Frame(_) => put_named("standard input", "frame refused", &mut ink),
         Stop::Fields => put_named(
             request.name_of(Named::Dbd),
@@ -169,6 +167,12 @@ fn advise<E: Write>(
         Refusal::Device => put_word("exit3", ink),
         Refusal::Memory => put_word("exit4", ink),
     }
+}
+
+/// Writes that a file for a result is read too.
+fn put_over_input<E: Write>(name: &str, ink: &mut Ink<'_, E>) {
+    ink.name(name);
+    ink.put(": the command reads it too; name another file for the result\n");
 }
 
 /// The file of a command that is written.
