@@ -358,7 +358,7 @@ def try_full_disk(place):
         lines = b"".join(b"L     ISRT PART    *-\nD%-32b\n" % (b"Q%05dx" % number) for number in range(2000))
         write("grow.deck", lines)
         done = place.more("deck", "parts.dbd", "parts.psb", "disk/volume", "grow.deck")
-        expect("a deck on a full disk", done.status == 3 and done.err == f"{DEVICE}  disk/volume: No space left on device\n", done[::2])
+        expect("a deck on a full disk", done.status == 3 and done.err == f"{DEVICE}  disk/volume-log: No space left on device\n", done[::2])
         expect("a deck on a full disk leaves the last commit", place.passes("disk/volume") and read("disk/volume") == read("small.volume"))
     finally:
         subprocess.run(["umount", "disk"], check=True)
@@ -619,7 +619,7 @@ def try_further_lines(place):
     write("noise", bytes(range(256)) * 4)
     length = len(read("small.volume"))
     fault = "fault 1 at 0, other 0\n"
-    means = "  1: the file is no whole volume of the DBD's block size"
+    means = ": 1: the file is no whole volume of the DBD's block size"
     more = "; hd explain 1 says more\n"
     for words, told in (
         (["check", "small.volume", "parts.dbd"], "  small.volume: this is a volume, and no DBD source\n"),
@@ -630,9 +630,9 @@ def try_further_lines(place):
         (["check", "parts.dbd", "text"], fault + "  text: this is text, and no volume\n"),
         (["reload", "parts.dbd", "small.volume", "none.volume", "16"], "reload refused: U1 at record 0\n  small.volume: this is a volume, and no unload stream\n"),
         (["reload", "parts.dbd", "text", "none.volume", "16"], "reload refused: U1 at record 0\n  text: this is text, and no unload stream\n"),
-        (["check", "parts.dbd", "noise"], fault + means + more),
-        (["check", "parts.dbd", "empty"], f"{fault}{means}; the file has 0 bytes, and a block 512{more}"),
-        (["check", "parts.dbd", "short"], f"{fault}{means}; the header asks for {length // 512} blocks of 512 bytes, {length} in all, and the file has 700{more}"),
+        (["check", "parts.dbd", "noise"], f"{fault}  noise{means}; the file does not begin with HDVOLUME{more}"),
+        (["check", "parts.dbd", "empty"], f"{fault}  empty{means}; the file has 0 bytes, and a block 512{more}"),
+        (["check", "parts.dbd", "short"], f"{fault}  short{means}; the header asks for {length // 512} blocks of 512 bytes, {length} in all, and the file has 700{more}"),
         (["check", "no\nsuch\x1b[31mfile\x7f", "small.volume"], f"{DEVICE}  no\\x0asuch\\x1b[31mfile\\x7f: No such file or directory\n"),
         (["check", "parts.dbd", "ä\x85"], f"{DEVICE}  ä\\x85: No such file or directory\n"),
     ):

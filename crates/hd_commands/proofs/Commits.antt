@@ -197,6 +197,11 @@ module _ (d : Database) (pcbs : List View) (store : Stored) (requests : List Req
         (one_lasts left.committed new done.log.last (is.0 ∙ sym done.played.ends, is.1 ∙ sym done.played.ends, is.2)));
   }
 
+  -- with the log of the calls
+  pub committed_log : committed_done.log ≡ done.log
+  unfolding committed_done
+  committed_log = refl
+
 -- a deck, or a part of it
 units : (d : Database) → UnitsAreRequests d
 units d pcbs store every turns new (inl same) = inl same

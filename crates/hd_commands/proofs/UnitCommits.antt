@@ -1,10 +1,13 @@
 -- What a play with commits among its calls comes to, in a cache, in the store below it, and behind a last commit.
-use Rattle.std.proofs.Common.{◌≡◌, ◌<◌, ◌≤◌, ◌⊎◌, ℕ, List, [], ◌∷◌, ◌++◌, length, take, Bool, true, false, IsTrue, Result, Ok, Err, Some, Option, refl, inl, inr, sym, ◌∙◌, ap, subst, arith}
+use Rattle.std.proofs.Common.{◌≡◌, ◌<◌, ◌≤◌, ◌⊎◌, ◌+◌, ℕ, List, [], ◌∷◌, ◌++◌, length, take, Bool, true, false, IsTrue, Result, Ok, Err, Some, Option, refl, inl, inr, sym, ◌∙◌, ap, subst, arith}
 use Rattle.std.specs.Prelude.{OnOk, OnErr, IfOk, IfErr, unwrap_or}
 use Rattle.std.proofs.lemmas.List.{append-nil, length-append, take_at}
 use Rattle.hd_dbd.specs.declared.answer.Refused.{Refused}
 use Rattle.hd_dbd.specs.Types.{View}
 use Rattle.hd_dbd.specs.Hierarchy.{Database}
+use Rattle.std.specs.Io.KnownBytes.{Appends}
+use Rattle.hd_dbd.specs.Logs.{Log}
+use Rattle.hd_deck.specs.Printing.{print}
 use Rattle.hd_stores.specs.Stores.{Committed, CountsFor, SoundFor, FailsCommit, IsCommit}
 use Rattle.hd_session.specs.Turns.{Turn}
 use Rattle.hd_session.specs.Requests.{Request, commit, calls_in}
@@ -13,7 +16,7 @@ use Rattle.hd_session.specs.declared.opening.OpenFault.TheVariants as opening
 use Rattle.hd_deck.specs.declared.runs.RunFault.{RunFault}
 use Rattle.hd_deck.specs.declared.runs.RunFault.TheVariants as run
 use Rattle.hd_deck.specs.StepText.{StepText}
-use Rattle.hd_deck.specs.Runs.{turns_of, IsPlayed, IsPlayedInPart, fault_refusal}
+use Rattle.hd_deck.specs.Runs.{turns_of, memory_in, IsPlayed, IsPlayedInPart, fault_refusal}
 use Rattle.hd_deck.specs.Commits.{Stored, stored_in, requests_from, IsDone, IsDoneUntilFailure, IsRunDone, IsDoneInPart, IsBrokenInPart, IsDoneUntilFault}
 use Rattle.hd_deck.proofs.Requests.{calls_of_requests}
 use Rattle.hd_journal.specs.Journals.{IsCommitted}
@@ -23,7 +26,7 @@ use Rattle.hd_commands.specs.declared.refusal.Refusal.TheVariants.{Fault, Old, N
 use Rattle.hd_commands.specs.Refusals.{of_run}
 use Rattle.hd_commands.specs.Units.{IsWritten, MayCommit, unit_requests, IsUnitInPart, UnitCommits}
 use Rattle.hd_commands.specs.Plays.{PlaySays, FailsOrStays}
-use Rattle.hd_commands.proofs.Commits.{committed_done}
+use Rattle.hd_commands.proofs.Commits.{committed_done, committed_log}
 
 -- ---- requests that were carried out in part
 
@@ -36,7 +39,7 @@ pub broken_part : (d : Database) (pcbs : List View) (store left : Stored) (reque
 broken_part d pcbs store left requests part = record { first = part.first; rest = part.rest; parts = part.parts; done = record { last = left; done = part.done; fails = inl refl } }
 
 take-front : {A : Type 0} (xs ys zs : List A) → zs ≡ xs ++ ys → take (length xs) zs ≡ xs
-take-front xs ys zs is = ap (λ l. take (length xs) l) is ∙ take_at xs ys
+take-front xs ys zs is = ap (λ l. take (length xs) l) is ∙ take_at xs ys (length xs) refl
 
 few-front : {A : Type 0} (xs ys zs : List A) → zs ≡ xs ++ ys → length xs ≤ length zs
 few-front xs ys zs is = let e : length zs ≡ length xs + length ys = ap (λ l. length l) is ∙ length-append xs ys in omega (arith, e)
@@ -116,8 +119,11 @@ pub stays-sound : {S : Type 0} (is_sound : S → Bool) (failures : S → ℕ) (o
 stays-sound is_sound failures old new (inl stays) none = stays.0
 stays-sound is_sound failures old new (inr fails) none = absurd (omega (arith, none, fails.0))
 
-stored-as : (a b : List ℕ) (c e : Committed) → a ≡ b → c ≡ e → record { bytes = a; committed = c } ≡ record { bytes = b; committed = e } :> Stored
-stored-as a b c e same last = subst (λ (x : List ℕ). record { bytes = a; committed = c } ≡ record { bytes = x; committed = e } :> Stored) same (ap (λ (x : Committed). record { bytes = a; committed = x } :> Stored) last)
+abbrev stored : List ℕ → Committed → Stored
+stored bytes committed = record { bytes = bytes; committed = committed }
+
+stored-as : (a b : List ℕ) (c e : Committed) → a ≡ b → c ≡ e → stored a c ≡ stored b e
+stored-as a b c e same last = subst (λ (bytes : List ℕ). stored a c ≡ stored bytes e) same (ap (λ (k : Committed). stored a k) last)
 
 module _ {S T : Type 0} (is_sound : S → Bool) (failures : S → ℕ) (contents : S → List ℕ) (committed : S → Committed) (is_sound' : T → Bool) (failures' : T → ℕ) (contents' : T → List ℕ) (committed' : T → Committed)
     (d : Database) (pcbs : List View) (requests : List Request) (old new : S) (old' new' : T) (sound : is_sound' old' ≡ is_sound old) (bytes : IsTrue (is_sound' old') → contents' old' ≡ contents old)
@@ -218,9 +224,12 @@ unit-commits d pcbs store mid every turns wanted sound new added part (inr (want
 pub unit-done : (d : Database) (pcbs : List View) (store mid : Stored) (every : Option ℕ) (turns : List Turn) (first last : Option (List ℕ)) (memory : ℕ) (sound : Bool) (contents : List ℕ) (new : Committed) → IsTrue sound
     → IsRunDone d pcbs store (requests_from every 1 turns) first last memory mid → IsCommit sound mid.bytes contents mid.committed new
     → IsRunDone d pcbs store (unit_requests every turns) first last memory (record { bytes = contents; committed = new })
-unfolding committed_done
 unit-done d pcbs store mid every turns first last memory sound contents new now run is =
     let made = is now in
     let committed : IsCommitted mid.bytes mid.committed new = (made.1, made.2, made.3) in
     subst (λ (bytes : List ℕ). IsRunDone d pcbs store (unit_requests every turns) first last memory (record { bytes = bytes; committed = new })) (sym made.0)
-    (record { done = committed_done d pcbs store (requests_from every 1 turns) mid run.done new committed; printed = run.printed; memory = run.memory })
+    (record {
+      done = committed_done d pcbs store (requests_from every 1 turns) mid run.done new committed;
+      printed = subst (λ (log : Log (List ℕ)). Appends first last (print log)) (sym (committed_log d pcbs store (requests_from every 1 turns) mid run.done new committed)) run.printed;
+      memory = subst (λ (log : Log (List ℕ)). memory ≡ memory_in log.entries) (sym (committed_log d pcbs store (requests_from every 1 turns) mid run.done new committed)) run.memory;
+    })

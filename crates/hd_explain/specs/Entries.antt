@@ -1,5 +1,5 @@
 -- The entries of the table as plain texts, and how they are written.
-use Rattle.std.specs.Prelude.{ℕ, List, ◌++◌, Option, find, map, drop, length, min, codes}
+use Rattle.std.specs.Prelude.{ℕ, List, ◌++◌, Option, find, map, drop, length, codes}
 use Rattle.std.specs.Str.{str_eq_ignore_ascii_case}
 use Rattle.hd_explain.specs.declared.entry.Entry.{Entry}
 use Rattle.hd_explain.specs.declared.entry.Kind.{Kind}
@@ -33,10 +33,6 @@ abbrev pub entry_text : Entry (List ℕ) → List ℕ
 entry_text entry =
     (entry.word ++ codes ", " ++ name_of entry.kind) ++ (codes ": " ++ entry.summary ++ codes "\n") ++ (entry.text ++ codes "\n")
 
--- the blanks behind a word, up to eight places, and two at least
-abbrev pub blanks_behind : List ℕ → List ℕ
-blanks_behind word = drop (min (length word) 6) (codes "        ")
-
--- a word in its places, and its summary
+-- a word in eight places, and its summary
 abbrev pub list_line : Entry (List ℕ) → List ℕ
-list_line entry = (entry.word ++ blanks_behind entry.word) ++ (entry.summary ++ codes "\n")
+list_line entry = (entry.word ++ drop (length entry.word) (codes "        ")) ++ (entry.summary ++ codes "\n")

@@ -13,15 +13,17 @@ pub const EXIT_STATUSES: &[Explanation] = &[
         word: "exit1",
         kind: Kind::ExitStatus,
         summary: "a volume or a stream is refused",
-        text: "The volume has a fault; or it holds segments, and the program loads; or a stream is refused, or does\n\
-               not fit. The line on standard error says which, with a number or a code that hd explain knows.",
+        text: "The volume has a fault; or it holds segments, and the program loads; or it is of an older version,\n\
+               and a deck is to be played over it; or a stream is refused, or does not fit; or a call of hd deck\n\
+               --expect answered something else. The line on standard error says which, and hd explain knows it.",
     },
     Entry {
         word: "exit2",
         kind: Kind::ExitStatus,
         summary: "a text is refused",
-        text: "The DBD, the PSB or the deck has a fault. The line on standard error gives the place and a code that\n\
-               hd explain knows.",
+        text: "The DBD, the PSB, the deck, or a text of rows or a table of hd stream has a fault; or hd serve can't\n\
+               tell a type of more than 255 fields. The line on standard error gives the place, and a code or words\n\
+               that hd explain knows.",
     },
     Entry {
         word: "exit3",
@@ -45,7 +47,7 @@ pub const EXIT_STATUSES: &[Explanation] = &[
         kind: Kind::ExitStatus,
         summary: "the command line was not understood",
         text: "hd does not understand its words, or help or the version was asked for, or hd explain does not know\n\
-               a word, or an output file is also an input. Nothing was changed. Ask hd --help for the commands and\n\
-               their words.",
+               a word, or the DBD has no type of the name behind --csv, or an output file is also an input, or two\n\
+               outputs are one file. Nothing was changed. Ask hd --help for the commands and their words.",
     },
 ];

@@ -114,6 +114,12 @@ pub const LINES: &[Explanation] = &[
                changed. Name another file for the result. The status is 64.",
     },
     Entry {
+        word: "both output files are one",
+        kind: Kind::Line,
+        summary: "both results of hd salvage --orphans would go into one file",
+        text: "FILE of --orphans and OUT lead to one file. Nothing was changed. Name two files. The status is 64.",
+    },
+    Entry {
         word: "is not UTF-8",
         kind: Kind::Line,
         summary: "a word of the command line is no text",
@@ -158,6 +164,36 @@ pub const LINES: &[Explanation] = &[
                quotes. The status is 64.",
     },
     Entry {
+        word: "expected,",
+        kind: Kind::Line,
+        summary: "a call of hd deck --expect answered something else",
+        text: "Behind the call the deck says, by a comment * expect, what it should answer; the line names the call\n\
+               and its line, what is expected, and what was answered. What the calls changed is committed all the\n\
+               same. Correct the deck, or look for what changed the volume. The status is 1.",
+    },
+    Entry {
+        word: "committed: at least",
+        kind: Kind::Line,
+        summary: "how far a deck with --commit came that failed",
+        text: "The commit behind so many calls was done for certain: the volume has what they changed. Later calls\n\
+               may be committed too, or not: hd check, and calls that look, say which. Play the rest of the deck.",
+    },
+    Entry {
+        word: "calls answered Full",
+        kind: Kind::Line,
+        summary: "so many calls of a deck found no room in the volume",
+        text: "The rows of these calls are not in the volume; the others are. Write the stream by hd unload, make a\n\
+               volume with more BLOCKS of it by hd reload, and make the calls again.",
+    },
+    Entry {
+        word: "warning:",
+        kind: Kind::Line,
+        summary: "hd show warns of what an unload and a reload mend",
+        text: "The volume is nearly full, its index has more levels than it needs, or a chain of twins is long. No\n\
+               fault is meant: the volume passes or not, whatever is said. hd unload and hd reload with more BLOCKS\n\
+               mend the first two; of a long chain other types or keys.",
+    },
+    Entry {
         word: "passes:",
         kind: Kind::Line,
         summary: "the volume has no fault",
@@ -198,6 +234,13 @@ pub const LINES: &[Explanation] = &[
         kind: Kind::Line,
         summary: "a volume that passes was copied",
         text: "The volume passed, and the copy has every block of it, so many, and has its name. The status is 0.",
+    },
+    Entry {
+        word: "wrote",
+        kind: Kind::Line,
+        summary: "a table for each type was written",
+        text: "The volume passed, and the folder has a table for each segment type, with all segments of the volume.\n\
+               hd stream --csv takes the folder. The status is 0.",
     },
     Entry {
         word: "made a stream",

@@ -1,6 +1,6 @@
-ghost use Rattle.std.specs.Prelude.{◌≡◌, ◌++◌, OnOk, codes, flat_map, map};
+ghost use Rattle.std.specs.Prelude.{◌≡◌, ◌++◌, OnOk, drop, length, codes, flat_map, map};
 ghost use Rattle.std.specs.Io.KnownBytes.{Appends};
-ghost use Rattle.hd_explain.specs.Entries.{plain, entry_text, list_line, name_of, blanks_behind};
+ghost use Rattle.hd_explain.specs.Entries.{plain, entry_text, list_line, name_of};
 
 use crate::entry::Explanation;
 use std::io::{self, Write};
@@ -37,7 +37,7 @@ fn write_text<W: Write>(entry: &Explanation, out: &mut W) -> io::Result<()>
     put(out, "\n")
 }
 
-/// Writes a line for each entry of a table, in its order: the word in eight places, or with two blanks behind it where it takes so many, and its summary.
+/// Writes a line for each entry of a table, in its order: the word in eight places, and its summary.
 pub fn write_lines<W: Write>(entries: &[Explanation], out: &mut W) -> io::Result<()>
     ensures { OnOk result (Appends (W.contents out.old) (W.contents out.new)
         (flat_map list_line (map (λ entry. plain entry (λ text. text.now)) entries.now))) }
@@ -48,7 +48,7 @@ pub fn write_lines<W: Write>(entries: &[Explanation], out: &mut W) -> io::Result
     Ok(())
 }
 
-/// Writes a word in its places, and its summary.
+/// Writes a word in eight places, and its summary.
 fn write_line<W: Write>(entry: &Explanation, out: &mut W) -> io::Result<()>
     ensures { OnOk result (Appends (W.contents out.old) (W.contents out.new) (list_line (plain entry.now (λ text. text.now)))) }
 {
@@ -57,27 +57,12 @@ fn write_line<W: Write>(entry: &Explanation, out: &mut W) -> io::Result<()>
     put(out, "\n")
 }
 
-/// Writes a word, and blanks up to eight places; two behind one that takes so many.
+/// Writes a word, and blanks up to eight places.
 fn write_place<W: Write>(word: &str, out: &mut W) -> io::Result<()>
-    ensures { OnOk result (Appends (W.contents out.old) (W.contents out.new) (word.now ++ blanks_behind word.now)) }
+    ensures { OnOk result (Appends (W.contents out.old) (W.contents out.new) (word.now ++ drop (length word.now) (codes "        "))) }
 {
     put(out, word)?;
-    put(out, blanks_behind(word))
-}
-
-/// The blanks behind a word.
-fn blanks_behind(word: &str) -> &'static str
-    ensures { result.now ≡ blanks_behind word.now }
-{
-    match word.len() {
-        0 => "        ",
-        1 => "       ",
-        2 => "      ",
-        3 => "     ",
-        4 => "    ",
-        5 => "   ",
-        _ => "  ",
-    }
+    out.write_all(b"        ".get(word.len()..).unwrap_or(&[]))
 }
 
 /// Writes all of a text.

@@ -38,27 +38,15 @@ pub fn advise_stop<R: Files<File = File>, E: Write>(
     let mut ink = Ink::new(err);
     match stop {
         Stop::Database(fault, source) => {
-            let text = SourceText {
-                file: Named::Dbd,
-                name: request.name_of(Named::Dbd),
-                source,
-            };
+            let text = source_text(request, Named::Dbd, source);
             advise_source(alloc, *fault, text, None, &mut ink);
         }
         Stop::Source(fault, source) => {
-            let text = SourceText {
-                file: Named::Dbd,
-                name: request.name_of(Named::Dbd),
-                source,
-            };
+            let text = source_text(request, Named::Dbd, source);
             advise_source(alloc, GenFault::Line(*fault), text, None, &mut ink);
         }
         Stop::Program(fault, source) => {
-            let text = SourceText {
-                file: Named::Psb,
-                name: request.name_of(Named::Psb),
-                source,
-            };
+            let text = source_text(request, Named::Psb, source);
             let dbd = database_of(rt, alloc, request);
             advise_source(alloc, *fault, text, dbd.as_ref(), &mut ink);
         }
@@ -96,9 +84,30 @@ pub fn advise_stop<R: Files<File = File>, E: Write>(
             ink.put(": another version of hd wrote it, which can copy it into the volume\n");
         }
         Stop::Table(table) => put_table(request.name_of(Named::Rows), table, &mut ink),
-        Stop::OverInput | Stop::Words | Stop::NoType => {}
-        Stop::Frame(_) | Stop::Fields => {}
+        Stop::NoType => {
+            if let Some(dbd) = database_of(rt, alloc, request) {
+                put_types(request.name_of(Named::Dbd), &dbd, &mut ink);
+            }
+        }
+        Stop::OverInput => put_over_input(request.name_of(written_by(request)), &mut ink),
+        Stop::OrphansOverInput => put_over_input(request.name_of(Named::Rows), &mut ink),
+        Stop::Frame(_) => put_named("standard input", "frame refused", &mut ink),
+        Stop::Fields => put_named(
+            request.name_of(Named::Dbd),
+            "more than 255 fields",
+            &mut ink,
+        ),
+        Stop::Words => put_named("the command line", "is not UTF-8", &mut ink),
         Stop::Refused(refusal) => advise(alloc, *refusal, None, request, &mut ink),
+    }
+}
+
+/// The source of one of a command's files.
+fn source_text<'a>(request: &Request<'a>, file: Named, source: &'a [u8]) -> SourceText<'a> {
+    SourceText {
+        file,
+        name: request.name_of(file),
+        source,
     }
 }
 
@@ -139,22 +148,70 @@ fn advise<E: Write>(
         Some(Sight::Stream(head)) => put_stream(request.name_of(Named::Stream), head, ink),
         _ => {}
     }
+    let volume = request.name_of(Named::Volume);
+    let stream = request.name_of(Named::Stream);
     match refusal {
         Refusal::Fault(fault) => {
             if let Ok(number) = format!(in alloc; "{}", fault.number()) {
-                put_fault(&number, seen, ink);
+                put_fault(volume, &number, seen, ink);
             }
         }
         Refusal::Record(fault, _) => {
             if let Ok(name) = format!(in alloc; "{fault}") {
-                put_word(&name, ink);
+                put_named(stream, &name, ink);
             }
         }
-        Refusal::Full(_) => put_word("Full", ink),
-        Refusal::Old(_) | Refusal::NotEmpty => put_word("exit1", ink),
+        Refusal::Full(_) => put_named(stream, "Full", ink),
+        Refusal::Old(_) => put_named(volume, "volume of version", ink),
+        Refusal::NotEmpty => put_named(volume, "volume is not empty", ink),
         Refusal::Device => put_word("exit3", ink),
         Refusal::Memory => put_word("exit4", ink),
     }
+}
+
+/// Writes that a file for a result is read too.
+fn put_over_input<E: Write>(name: &str, ink: &mut Ink<'_, E>) {
+    ink.name(name);
+    ink.put(": the command reads it too; name another file for the result\n");
+}
+
+/// The file of a command that is written.
+fn written_by(request: &Request<'_>) -> Named {
+    match request {
+        Request::Unload { .. } | Request::Copy { .. } => Named::Out,
+        Request::Salvage { .. } | Request::Stream { .. } => Named::Out,
+        Request::Show { .. } => Named::Picture,
+        _ => Named::Volume,
+    }
+}
+
+/// Writes the names of a database's types.
+fn put_types<E: Write>(name: &str, dbd: &Dbd, ink: &mut Ink<'_, E>) {
+    ink.name(name);
+    let mut between = ": its types are ";
+    for segment in dbd.types() {
+        ink.put(between);
+        ink.put(text_of(&segment.name));
+        between = ", ";
+    }
+    ink.put("\n");
+}
+
+/// Writes what a word means, behind the name of the file of which it tells.
+fn put_named<E: Write>(name: &str, word: &str, ink: &mut Ink<'_, E>) {
+    if let Some(entry) = explain(word) {
+        put_entry_of(name, entry, ink);
+        put_more(entry, ink);
+    }
+}
+
+/// Writes a word and what it means, behind the name of the file of which it tells.
+fn put_entry_of<E: Write>(name: &str, entry: &Explanation, ink: &mut Ink<'_, E>) {
+    ink.name(name);
+    ink.put(": ");
+    ink.put(entry.word);
+    ink.put(": ");
+    ink.put(entry.summary);
 }
 
 /// The database that a command names, read once more.
@@ -344,17 +401,20 @@ pub fn put_entry<E: Write>(entry: &Explanation, ink: &mut Ink<'_, E>) {
 
 /// Writes which command says more of a word.
 pub fn put_more<E: Write>(entry: &Explanation, ink: &mut Ink<'_, E>) {
+    let quote = if entry.word.contains(' ') { "\"" } else { "" };
     ink.put("; hd explain ");
+    ink.put(quote);
     ink.put(entry.word);
+    ink.put(quote);
     ink.put(" says more\n");
 }
 
-/// Writes what a fault of a volume means, and what is seen at its place.
-fn put_fault<E: Write>(word: &str, seen: Option<&Sight>, ink: &mut Ink<'_, E>) {
+/// Writes what a fault of a volume means, behind the volume's name, and what is seen at its place.
+fn put_fault<E: Write>(name: &str, word: &str, seen: Option<&Sight>, ink: &mut Ink<'_, E>) {
     let Some(entry) = explain(word) else {
         return;
     };
-    put_entry(entry, ink);
+    put_entry_of(name, entry, ink);
     match seen {
         Some(Sight::Segment(segment)) => put_segment(segment, ink),
         Some(Sight::Length(length)) => put_length(*length, ink),

@@ -216,8 +216,10 @@ impl<W: Write> Compared<W> {
 
     /// Notes what the call that is due was answered, as its line says.
     fn judge(&mut self) {
-        let head = self.head.get(..self.length).unwrap_or(b"");
-        let answered = answer_in(head);
+        let answered = match self.head.get(..self.length) {
+            Some(head) => answer_in(head),
+            None => word_of(b""),
+        };
         if let Some(expectation) = self.expectations.each.get_mut(self.next) {
             expectation.answered = Some(answered);
         }

@@ -72,8 +72,7 @@ fn write_list<O: Write>(out: &mut O) -> io::Result<()> {
     write_table("\nFaults of an unload stream", STREAM_FAULTS, out)?;
     write_table("\nStatus codes", STATUS_CODES, out)?;
     write_table("\nRefusals", REFUSALS, out)?;
-    write_table("\nExit statuses", EXIT_STATUSES, out)?;
-    write_table("\nLines", LINES, out)
+    write_table("\nExit statuses", EXIT_STATUSES, out)
 }
 
 /// Writes a heading, and a line for each word of a table.

@@ -154,9 +154,10 @@ pub fn open_orphans<'a, R: Files<File = File>>(
     let (new, named) = taken.unwrap_or((source, image));
     match Output::open(rt, alloc, wanted, &[source, image, new, named]) {
         Ok(orphans) => Ok(orphans),
-        Err(FileFault::OverInput) if !leads_to(rt, wanted.name, &[source, image]) => {
-            Err(Stop::OneOutput)
+        Err(FileFault::OverInput) if leads_to(rt, wanted.name, &[source, image]) => {
+            Err(Stop::OrphansOverInput)
         }
+        Err(FileFault::OverInput) => Err(Stop::OneOutput),
         Err(fault) => Err(Stop::from(fault)),
     }
 }

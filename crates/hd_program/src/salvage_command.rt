@@ -222,24 +222,23 @@ fn rescue_into<R: Files<File = File>, P: Progress>(
     dbd: &Dbd,
     file: File,
     output: &mut Output<'_, R>,
-    orphans: Option<&mut Output<'_, R>>,
+    orphans: &mut Option<Output<'_, R>>,
     cache: u32,
     progress: &P,
 ) -> Result<(Ended, Lines), Stop> {
     let mut lines = Lines::new(alloc)?;
-    let mut orphans = orphans;
     let (ended, said) = rescue_watched(
         alloc,
         dbd,
         file,
         output,
-        orphans.as_deref_mut(),
+        orphans.as_mut(),
         cache,
         progress,
         &mut lines,
     )?;
     match ended.status {
-        0 => publish(orphans, output)?,
+        0 => publish(orphans.as_mut(), output)?,
         DEVICE_FAILED if said.is_some() => return Err(Stop::device(Named::Out, said)),
         _ => {}
     }
@@ -303,7 +302,7 @@ where
         &dbd,
         file,
         &mut output,
-        orphans.as_mut(),
+        &mut orphans,
         cache,
         console.progress,
     )?;

@@ -91,7 +91,9 @@ fn advise_line<E: Write>(
     };
     put_entry(entry, ink);
     if let LineFault::M4(_) = fault {
-        put_unread(line_at(text.source, line), column, ink);
+        if column > 0 {
+            put_unread(line_at(text.source, line), column, ink);
+        }
     }
     put_more(entry, ink);
 }
@@ -230,7 +232,8 @@ fn advise_statement<E: Write>(
     };
     let culprit = culprit_of(alloc, fault, dbd, &statements);
     if let Some(culprit) = culprit {
-        put_line(text.name, culprit.statement.line, text.source, ink);
+        let statement = culprit.statement;
+        put_line(text.name, statement.line, text.source, ink);
     } else {
         ink.name(text.name);
         ink.put("\n");

@@ -45,6 +45,8 @@ pub enum Stop {
     /// The system refused to make a new file beside one, in which the result for it was to be written.
     Beside(Named, io::Error),
     OverInput,
+    /// The file for the rows that a salvage leaves out is also read.
+    OrphansOverInput,
     /// Two results would go into one file.
     OneOutput,
     InUse(Named),
@@ -86,7 +88,9 @@ impl fmt::Display for Stop {
             Stop::Frame(fault) => return write!(f, "frame refused: {fault}"),
             Stop::Refused(refusal) => return write!(f, "{refusal}"),
             Stop::File(_, _) | Stop::Beside(_, _) => "device failed",
-            Stop::OverInput => "output file is also an input, nothing was changed",
+            Stop::OverInput | Stop::OrphansOverInput => {
+                "output file is also an input, nothing was changed"
+            }
             Stop::OneOutput => "both output files are one, nothing was changed",
             Stop::InUse(_) => "volume is in use",
             Stop::OtherVolume => "log of another volume",
@@ -159,7 +163,8 @@ impl Stop {
             Stop::Fields => 2,
             Stop::File(_, _) | Stop::Beside(_, _) | Stop::InUse(_) | Stop::Frame(_) => 3,
             Stop::OtherVolume | Stop::OtherVersion | Stop::Waiting(_) => 3,
-            Stop::OverInput | Stop::OneOutput | Stop::Words | Stop::NoType => COMMAND_LINE,
+            Stop::OverInput | Stop::OrphansOverInput | Stop::OneOutput => COMMAND_LINE,
+            Stop::Words | Stop::NoType => COMMAND_LINE,
             Stop::Refused(refusal) => refusal.status(),
         }
     }

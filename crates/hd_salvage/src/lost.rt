@@ -39,6 +39,7 @@ impl Lost {
         walk: &Walk,
         faults: Vec<Fault>,
     ) -> Result<(), AllocError> {
+        self.records.reserve_exact(left_out(records, walk))?;
         for number in 0..records.len() {
             if !walk.is_kept(number) {
                 self.records.push(records[number])?;
@@ -47,4 +48,15 @@ impl Lost {
         self.faults = faults;
         Ok(())
     }
+}
+
+/// How many of some records a walk did not keep.
+fn left_out(records: &[Record], walk: &Walk) -> usize {
+    let mut count = 0usize;
+    for number in 0..records.len() {
+        if !walk.is_kept(number) {
+            count = count.saturating_add(1);
+        }
+    }
+    count
 }

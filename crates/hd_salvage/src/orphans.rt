@@ -17,15 +17,17 @@ use hd_volume::Volume;
 use std::alloc::{AllocError, Global};
 use std::io::Write;
 
-/// Where a record hangs among others that were left out: where its pointers begin in the table of these; the number of the first record below it, and
-/// that of the next one below the same record, both from 1, 0 for none; and whether it hangs below one.
+/// Where a record hangs among others that were left out: where its pointers begin in the table of these; the number of the first record below it, from 1, 0 for
+/// none; and that of the next one below the same record, 0 for none, and `TOP` where it hangs below none.
 #[derive(Clone, Copy)]
 struct Branch {
     pointers: u32,
     first: u32,
     next: u32,
-    is_below: bool,
 }
+
+/// The number that stands for the next record of one that hangs below none.
+const TOP: u32 = u32::MAX;
 
 /// The records that were left out, by address, and how they hang together. The pointers of each are its twin forward, and then the first child of each of
 /// its child types.
@@ -48,26 +50,66 @@ pub fn order_lost<S: BlockStore>(
     ensures read { IsRead volume.old result volume.new }
     ensures refusal { OnlyDeviceOrMemory result }
 {
-    let mut pointers = Vec::new(alloc);
-    let mut branches = Vec::new(alloc);
-    read_pointers(&mut pointers, &mut branches, volume, dbd, &lost.records)?;
-    let mut trees = Trees {
-        records: &lost.records,
-        block_size: dbd.block_size(),
-        pointers,
-        branches,
-    };
-    for number in 0..trees.records.len() {
-        trees.hang_children(dbd, number);
-    }
-    match trees.in_order(alloc) {
+    let order = order_of(alloc, volume, dbd, &lost.records)?;
+    match ordered(alloc, &lost.records, &order) {
         Ok(records) => {
-            drop(trees);
             lost.records = records;
             Ok(())
         }
         Err(_) => Err(Refused::Memory),
     }
+}
+
+/// Some records in the order of these numbers of theirs.
+fn ordered(alloc: Global, records: &[Record], order: &[u32]) -> Result<Vec<Record>, AllocError> {
+    let mut ordered = Vec::with_capacity(alloc, order.len())?;
+    for number in order {
+        if let Some(record) = records.get(*number as usize) {
+            ordered.push(*record)?;
+        }
+    }
+    Ok(ordered)
+}
+
+/// The numbers of records that were left out, each before those below it. What is kept of them is gone at the end.
+fn order_of<S: BlockStore>(
+    alloc: Global,
+    volume: &mut Volume<S>,
+    dbd: &Dbd,
+    records: &[Record],
+) -> Result<Vec<u32>, Refused>
+    ensures read { IsRead volume.old result volume.new }
+    ensures refusal { OnlyDeviceOrMemory result }
+{
+    let (Ok(mut pointers), Ok(mut branches)) = (
+        Vec::with_capacity(alloc, pointers_of(dbd, records)),
+        Vec::with_capacity(alloc, records.len()),
+    ) else {
+        return Err(Refused::Memory);
+    };
+    read_pointers(&mut pointers, &mut branches, volume, dbd, records)?;
+    let mut trees = Trees {
+        records,
+        block_size: dbd.block_size(),
+        pointers,
+        branches,
+    };
+    for number in 0..records.len() {
+        trees.hang_children(dbd, number);
+    }
+    match trees.in_order(alloc) {
+        Ok(order) => Ok(order),
+        Err(_) => Err(Refused::Memory),
+    }
+}
+
+/// How many pointers of some records are read.
+fn pointers_of(dbd: &Dbd, records: &[Record]) -> usize {
+    let mut count = records.len();
+    for record in records {
+        count = count.saturating_add(dbd.children_of(record.code).len());
+    }
+    count
 }
 
 /// Reads the pointers of the records that were left out.
@@ -139,8 +181,7 @@ fn note_pointers(
     let branch = Branch {
         pointers: narrowed(pointers.len()),
         first: 0,
-        next: 0,
-        is_below: false,
+        next: TOP,
     };
     let pushed = branches.push(branch);
     if pushed.is_err() || push_pointers(pointers, dbd, code, segment).is_err() {
@@ -229,7 +270,7 @@ impl Trees<'_> {
     /// Hangs a record below another, behind the last one there, unless it hangs below one; whether it does so now.
     fn hang(&mut self, above: usize, number: usize, last: u32) -> bool {
         match self.branches.get_mut(number) {
-            Some(branch) if !branch.is_below => branch.is_below = true,
+            Some(branch) if branch.next == TOP => branch.next = 0,
             _ => return false,
         }
         let named = narrowed(number.saturating_add(1));
@@ -243,47 +284,42 @@ impl Trees<'_> {
         true
     }
 
-    /// The records, each with those below it behind.
-    fn in_order(&self, alloc: Global) -> Result<Vec<Record>, AllocError> {
-        let mut ordered = Vec::with_capacity(alloc, self.records.len())?;
+    /// The numbers of the records, each before those below it.
+    fn in_order(&self, alloc: Global) -> Result<Vec<u32>, AllocError> {
+        let mut order = Vec::with_capacity(alloc, self.records.len())?;
         let mut waiting = Vec::new(alloc);
         for number in 0..self.branches.len() {
-            if !self.branches[number].is_below {
+            if self.branches[number].next == TOP {
                 waiting.push(narrowed(number.saturating_add(1)))?;
-                self.put_tree(&mut waiting, &mut ordered)?;
+                self.put_tree(&mut waiting, &mut order)?;
             }
         }
-        Ok(ordered)
+        Ok(order)
     }
 
-    /// Puts the records that wait, by their numbers from 1, behind others, the last first, each with those below it.
-    fn put_tree(
-        &self,
-        waiting: &mut Vec<u32>,
-        ordered: &mut Vec<Record>,
-    ) -> Result<(), AllocError> {
+    /// Puts the numbers that wait, from 1, behind others, the last first, each with those of the records below it.
+    fn put_tree(&self, waiting: &mut Vec<u32>, order: &mut Vec<u32>) -> Result<(), AllocError> {
         for _turn in 0..self.branches.len() {
             let Some(number) = waiting.pop() else {
                 return Ok(());
             };
-            self.put_record((number as usize).saturating_sub(1), waiting, ordered)?;
+            self.put_number(number.saturating_sub(1), waiting, order)?;
         }
         Ok(())
     }
 
-    /// Puts a record behind others; the next one below the same record waits then, and before it the first below this one.
-    fn put_record(
+    /// Puts the number of a record behind others; the next one below the same record waits then, and before it the first below this one.
+    fn put_number(
         &self,
-        number: usize,
+        number: u32,
         waiting: &mut Vec<u32>,
-        ordered: &mut Vec<Record>,
+        order: &mut Vec<u32>,
     ) -> Result<(), AllocError> {
-        let (Some(record), Some(branch)) = (self.records.get(number), self.branches.get(number))
-        else {
+        let Some(branch) = self.branches.get(number as usize) else {
             return Ok(());
         };
-        ordered.push(*record)?;
-        if branch.next != 0 {
+        order.push(number)?;
+        if branch.next != 0 && branch.next != TOP {
             waiting.push(branch.next)?;
         }
         if branch.first != 0 {
