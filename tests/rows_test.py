@@ -1,5 +1,5 @@
 #!/usr/bin/env python3
-"""Random databases go out as rows and as tables, and come back: the stream that is made of them is the one that `hd unload` writes, byte for byte.
+"""Random databases go out as rows and as tables, and come back: the stream that is made of them is the one of which they were loaded, byte for byte.
 
     tests/rows_test.py HD [--cases N] [--seed N]
 
@@ -23,7 +23,7 @@ from player import Database, Program, read, statement, write
 from random_calls import NAMES, Node, Random, in_sequence, says_length
 from salvage_test import parts_of, shown
 
-FIELD_NAMES = ["KEY", "A", "FIELD#2", "AMOUNT", "$X", "LONGNAME"]
+FIELD_NAMES = ["KEY", "A", "FIELD#2", "AMOUNT", "X@$", "LONGNAME"]
 
 # Signs of packed numbers, those that are written oftener than others.
 SIGNS = [0xC, 0xC, 0xC, 0xD, 0xD, 0xD, 0xF, 0xA, 0xB, 0xE, 0, 9]
@@ -276,10 +276,8 @@ class Tester:
         database = maker.database()
         rows = maker.rows(database, 60)
         write("a.dbd", database.source())
-        write("in.stream", database.stream(rows))
-        self.must("reload", "--no-sync", "a.dbd", "in.stream", "a.volume", 65_536)
-        self.must("unload", "--no-sync", "a.dbd", "a.volume", "a.stream")
-        self.see("the stream", read("a.stream"), read("in.stream"))
+        write("a.stream", database.stream(rows))
+        self.must("reload", "--no-sync", "a.dbd", "a.stream", "a.volume", 65_536)
         return database, rows
 
     def play(self, cases):
