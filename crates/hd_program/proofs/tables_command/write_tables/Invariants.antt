@@ -1,4 +1,4 @@
-use Rattle.std.proofs.Common.{◌≡◌, ◌×◌}
+use Rattle.std.proofs.Common.{◌≡◌}
 use Rattle.hd_program.proofs.tables_command.write_tables.Given as goal
 
 -- the blocks and the segments of the volume are of the same sizes as before
