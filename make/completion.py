@@ -72,7 +72,7 @@ def bash(program):
     """The completion of bash."""
     whole, commands = commands_of(program)
     valued = [(f"{command.name}:{name}", option) for command in [whole, *commands] for option in command.options for name in option.names if option.value]
-    given = {"FILE": "return"}
+    given = {"FILE": "return", "FOLDER": "return"}
     values = arms((place, f"{words_of(option.choices)}; return" if option.choices else given.get(option.value, "compopt +o default; return")) for place, option in valued)
     options = arms((command.name or QUOTES, f"options='{' '.join(name for option in command.options for name in option.names)}'") for command in [whole, *commands])
     places = [(":0", words_of(command.name for command in commands))]
@@ -96,7 +96,7 @@ def zsh_option(option):
     names = option.names[0] if len(option.names) == 1 else "(" + " ".join(option.names) + ")'{" + ",".join(option.names) + "}'"
     value = ""
     if option.value:
-        action = f"({' '.join(option.choices)})" if option.choices else "_files" if option.value == "FILE" else " "
+        action = f"({' '.join(option.choices)})" if option.choices else "_files" if option.value in ("FILE", "FOLDER") else " "
         value = f":{option.value}:{action}"
     return f"'{names}{'=' if option.value else ''}[{quoted(option.about)}]{value}'"
 
