@@ -54,7 +54,7 @@ hd reload edu.dbd edu.stream edu.volume |
 hd recover edu.dbd edu.volume |FILES
 hd rows --csv |
 hd stream --csv |FILES
-hd stream --|--csv --explain --no-sync --help
+hd stream --|--csv --explain --types --no-sync --help
 hd serve --com|--commit-on-request
 hd show --svg |FILES
 hd explain Fu|Full
