@@ -57,6 +57,9 @@ hd stream --csv |FILES
 hd stream --|--csv --explain --types --no-sync --help
 hd serve --com|--commit-on-request
 hd show --svg |FILES
+hd rows --tables |FILES
+hd salvage --orphans |FILES
+hd deck --commit |
 hd explain Fu|Full
 hd explain GB |
 hd nothing |
