@@ -127,10 +127,10 @@ fn play_through<D: Disk, L: Ledger, P: Progress, O: Write, E: Write>(
 /// Plays a deck over a volume and its log, through a cache of so many blocks, and makes last what its calls made of the volume. Says what the calls answer on
 /// `out`, or on `err` why they were not all made. Where they were, says how many of them found no memory.
 ///
-/// The deck is one unit, where no number of calls is given, behind each of which there is a commit. From `Ok` on a crash leaves what the calls left, whenever
-/// it comes. Until then, and behind a refusal, it leaves the last commit's image, which is that before the deck where all of that was committed and none is made
-/// among its calls, or what the calls left: never what only a part of a call made. Of a moment before the deck it leaves what the commits before it say. Where
-/// a line could not be written, what was called before is committed too.
+/// There is a commit behind every so many calls, if a number is given, and one at the end: without a number the deck is one unit. From `Ok` on a crash leaves
+/// what the calls left, whenever it comes. Until then, and behind a refusal, it leaves the image of the last commit, which is that before the deck until there
+/// is one among its calls, or, where a commit is under way, that one's: never what only a part of a call made. Of a moment before the deck it leaves what the
+/// commits before it say. Where a line could not be written, what was called before is committed too.
 pub fn play_unit<D: Disk, L: Ledger, P: Progress, O: Write, E: Write>(
     alloc: Global,
     dbd: &Dbd,

@@ -16,7 +16,7 @@ use hd_rows::{Form, Values};
 use hd_stores::{BlockStore, RunStore};
 use hd_volume::Volume;
 use std::alloc::{AllocError, Global};
-use std::fs::File;
+use std::fs::{self, File};
 use std::io::{self, Write};
 use std::marker::Brand;
 use std::rt::Files;
@@ -49,13 +49,24 @@ impl<R: Files<File = File>> Folder<'_, R> {
         }
     }
 
-    /// Sees that the file of each table can be written, and is none that the command reads, before the first is.
+    /// Sees that the file of each table can be written, and is none that the command reads, before the first is. What is no regular file is opened once alone,
+    /// when it is written: the reader of a pipe would take the first end for the table's.
     fn be_writable(&self, alloc: Global, dbd: &Dbd) -> Result<(), Stop> {
         for segment in dbd.types() {
             let file = self.file_of(alloc, segment)?;
-            drop(Output::open(self.rt, alloc, self.wanted(&file), &self.inputs)?);
+            if !leads_elsewhere(self.rt, &file) {
+                drop(Output::open(self.rt, alloc, self.wanted(&file), &self.inputs)?);
+            }
         }
         Ok(())
+    }
+}
+
+/// Whether a name leads to what is no regular file.
+fn leads_elsewhere<R: Files<File = File>>(rt: &R, name: &str) -> bool {
+    match fs::metadata(rt, name) {
+        Ok(found) => !found.is_file(),
+        Err(_) => false,
     }
 }
 
