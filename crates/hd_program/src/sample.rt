@@ -67,7 +67,7 @@ const STREAM: &[u8] =
     b"HDUNLOAD\0\x01EDU     \x01\0\x08101ALGEB\x02\0\x0401AB\x03\0\x06ADAM01\x03\0\x06EVE 02\x02\0\x0402CD\x04\0\x05EULER\x01\0\x08205LOGIC\0\0\0\0\x07";
 
 /// The most blocks that the sample's volume may have.
-const BLOCKS: u32 = 65_536;
+const BLOCKS: u32 = 16;
 
 /// A volume of the sample's segments, in memory.
 pub fn volume(alloc: Global, dbd: &Dbd) -> Result<MemStore, Stop>
