@@ -9,18 +9,17 @@ compared with what this script makes of the same bytes, by the rules of FORMATS.
 read them. Where a type stands below one without a unique key its table can't name its parents, and `hd stream --csv` refuses it: this is seen too.
 The last line tells how many cases there were, and how many were wrong; the status is 1 if any was.
 """
-import argparse
 import os
 import shutil
 import sys
-import tempfile
 
 sys.dont_write_bytecode = True
 sys.path.insert(0, os.path.join(os.path.dirname(os.path.dirname(os.path.abspath(__file__))), "dli"))
 import hd as dli
 from model import Field, Type
 from player import Database, Program, read, statement, write
-from random_calls import NAMES, Node, Random, in_sequence, says_length
+from playing import try_cases
+from random_calls import NAMES, Random, says_length
 from salvage_test import parts_of, shown
 
 FIELD_NAMES = ["KEY", "A", "FIELD#2", "AMOUNT", "X@$", "LONGNAME"]
@@ -125,17 +124,6 @@ class Maker(Random):
         for field in type.fields.values():
             data[field.start - 1 : field.start - 1 + field.length] = self.number_bytes(field)
         return says_length(type, bytes(data))
-
-    def rows(self, database, most):
-        made, keys = [], set()
-        for _ in range(self.below(most)):
-            parent, type = self.spot(made, database)
-            data = self.segment(type)
-            name = (id(parent), type, type.key_of(data))
-            if not type.unique or name not in keys:
-                keys.add(name)
-                made.append(Node(parent, type, data))
-        return list(in_sequence(made, None))
 
 
 # ---- what goes out
@@ -297,20 +285,5 @@ class Tester:
                         print(f"seed {seed}, {' '.join([try_one.__name__, *options])}: {error}; see {keep}")
 
 
-def main():
-    parser = argparse.ArgumentParser()
-    parser.add_argument("hd")
-    parser.add_argument("--cases", type=int, default=300)
-    parser.add_argument("--seed", type=int, default=1)
-    given = parser.parse_args()
-    tester = Tester(given.hd, given.seed)
-    with tempfile.TemporaryDirectory(prefix="hd-rows-") as folder:
-        os.chdir(folder)
-        tester.play(given.cases)
-    print(f"{tester.refused} folders of tables were refused, whose types stand below one without a unique key")
-    print(f"{tester.cases} cases, {tester.wrong} wrong")
-    return 1 if tester.wrong else 0
-
-
 if __name__ == "__main__":
-    sys.exit(main())
+    sys.exit(try_cases(Tester, lambda tester: f"{tester.refused} folders of tables were refused, whose types stand below one without a unique key"))

@@ -9,15 +9,14 @@ its own parent. Those are told here from the rule alone, of the volume as it was
 from the front of its blocks, each with its address and its row, in the order that the rule gives. The last line tells how many cases there were, and how many
 were wrong; its status is 1 if any was.
 """
-import argparse
 import collections
 import os
 import random
 import sys
-import tempfile
 
 from model import Field, Type
 from player import Database, Program, read, rows_of, write
+from playing import try_cases
 from random_calls import Random
 
 DATA, INDEX, FREE = 1, 2, 3
@@ -429,20 +428,5 @@ class Tester:
                 self.cases += 1
 
 
-def main():
-    parser = argparse.ArgumentParser()
-    parser.add_argument("hd")
-    parser.add_argument("--cases", type=int, default=300)
-    parser.add_argument("--seed", type=int, default=1)
-    given = parser.parse_args()
-    tester = Tester(given.hd, given.seed)
-    with tempfile.TemporaryDirectory(prefix="hd-salvage-") as folder:
-        os.chdir(folder)
-        tester.play(given.cases)
-    print(f"{tester.orphans} segments were left out")
-    print(f"{tester.cases} cases, {tester.wrong} wrong")
-    return 1 if tester.wrong else 0
-
-
 if __name__ == "__main__":
-    sys.exit(main())
+    sys.exit(try_cases(Tester, lambda tester: f"{tester.orphans} segments were left out"))

@@ -1,5 +1,5 @@
 -- What a play with commits among its calls comes to, in a cache, in the store below it, and behind a last commit.
-use Rattle.std.proofs.Common.{◌≡◌, ◌<◌, ◌≤◌, ◌⊎◌, ◌+◌, ℕ, List, [], ◌∷◌, ◌++◌, length, take, Bool, true, false, IsTrue, Result, Ok, Err, Some, Option, refl, inl, inr, sym, ◌∙◌, ap, subst, arith}
+use Rattle.std.proofs.Common.{◌≡◌, ◌≤◌, ◌⊎◌, ◌+◌, ℕ, List, [], ◌∷◌, ◌++◌, length, take, Bool, true, false, IsTrue, Result, Ok, Err, Some, Option, refl, inl, inr, sym, ◌∙◌, ap, subst, arith}
 use Rattle.std.specs.Prelude.{OnOk, OnErr, IfOk, IfErr, unwrap_or}
 use Rattle.std.proofs.lemmas.List.{append-nil, length-append, take_at}
 use Rattle.hd_dbd.specs.declared.answer.Refused.{Refused}
@@ -17,14 +17,14 @@ use Rattle.hd_deck.specs.declared.runs.RunFault.{RunFault}
 use Rattle.hd_deck.specs.declared.runs.RunFault.TheVariants as run
 use Rattle.hd_deck.specs.StepText.{StepText}
 use Rattle.hd_deck.specs.Runs.{turns_of, memory_in, IsPlayed, IsPlayedInPart, fault_refusal}
-use Rattle.hd_deck.specs.Commits.{Stored, stored_in, requests_from, IsDone, IsDoneUntilFailure, IsRunDone, IsDoneInPart, IsBrokenInPart, IsDoneUntilFault}
+use Rattle.hd_deck.specs.Commits.{Stored, stored_in, requests_from, IsDone, IsRunDone, IsDoneInPart, IsBrokenInPart, IsDoneUntilFault}
 use Rattle.hd_deck.proofs.Requests.{calls_of_requests}
 use Rattle.hd_journal.specs.Journals.{IsCommitted}
 use Rattle.hd_commands.specs.declared.ended.Ended.{Ended}
 use Rattle.hd_commands.specs.declared.refusal.Refusal.{Refusal}
-use Rattle.hd_commands.specs.declared.refusal.Refusal.TheVariants.{Fault, Old, NotEmpty, Record, Full, Device, Memory}
+use Rattle.hd_commands.specs.declared.refusal.Refusal.TheVariants.{Fault, Old, NotEmpty, Device, Memory}
 use Rattle.hd_commands.specs.Refusals.{of_run}
-use Rattle.hd_commands.specs.Units.{IsWritten, MayCommit, unit_requests, IsUnitInPart, UnitCommits}
+use Rattle.hd_commands.specs.Units.{IsWritten, MayCommit, unit_requests, UnitCommits}
 use Rattle.hd_commands.specs.Plays.{PlaySays, FailsOrStays}
 use Rattle.hd_commands.proofs.Commits.{committed_done, committed_log}
 

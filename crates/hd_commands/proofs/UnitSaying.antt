@@ -1,6 +1,6 @@
 -- What is known of a store behind a play is known of it behind a write of all that a cache had, and behind a commit.
-use Rattle.std.proofs.Common.{◌≡◌, ◌<◌, ◌≤◌, ◌⊎◌, ℕ, List, Bool, true, false, IsTrue, Result, Ok, Err, Some, Option, inl, inr, sym, ◌∙◌, ap, subst, arith, length}
-use Rattle.std.specs.Prelude.{OnOk, OnErr, IfOk, IfErr, unwrap_or}
+use Rattle.std.proofs.Common.{◌≡◌, ◌<◌, ◌≤◌, ◌⊎◌, ℕ, List, Bool, true, false, IsTrue, Result, Ok, Err, Some, Option, inl, inr, sym, ◌∙◌, subst, arith}
+use Rattle.std.specs.Prelude.{OnOk, OnErr, IfOk, IfErr}
 use Rattle.hd_dbd.specs.declared.answer.Refused.{Refused}
 use Rattle.hd_dbd.specs.declared.answer.Refused.TheVariants as refused
 use Rattle.hd_dbd.specs.Types.{View}
