@@ -5,118 +5,32 @@ ghost use Rattle.hd_deck.specs.StepText.{StepFits};
 use crate::compared::{Compared, Expectations};
 use crate::console::{Console, Further, NOTHING_FURTHER};
 use crate::dbd_source::{blocks_for_calls, read_database};
-use crate::lines::{DEVICE_FAILED, DIFFERS, LINE};
-use crate::sample;
+use crate::deck_lines::{committed_calls, held_lines};
+use crate::lines::{DEVICE_FAILED, DIFFERS};
 use crate::stop::Stop;
 use crate::volume_store::{
     close_files, close_store, not_opened, open_files, open_store, tell_waiting,
 };
-use hd_commands::{Ended, Refusal, play_deck, play_unit, status_of_calls};
+use hd_commands::{Ended, Refusal, play_unit, status_of_calls};
 use hd_dbd::{Dbd, Psb};
 use hd_deck::{Step, read_deck};
-use hd_files::{Held, Identity, Left, Named, VolumeFiles, open_volume, read_file, read_whole};
+use hd_files::{Held, Identity, Left, Named, VolumeFiles, open_volume, read_file};
 use hd_gen::read_psb;
 use hd_journal::{Disk, Journaled, Unopened};
-use hd_output::{Answers, Pieces, Progress, Silent};
-use hd_stores::BlockStore;
+use hd_output::{Answers, Progress};
 use std::alloc::Global;
 use std::fs::File;
-use std::io::{self, Read, Write};
+use std::io::{self, Write};
 use std::marker::Brand;
 use std::rt::Files;
 use std::sync::ledger::{Blank, Ledger};
 
-/// How many calls a deck has.
-fn count_calls(steps: &[Step]) -> u64 {
-    let mut calls = 0u64;
-    for step in steps {
-        calls = calls.saturating_add(u64::from(step.repeat));
-    }
-    calls
-}
-
-/// The lines of a deck's calls, which go out in large pieces; how many of the calls are answered is told.
-fn lines_into<'p, O: Write, P: Progress>(
-    alloc: Global,
-    out: &'p mut O,
-    steps: &[Step],
-    progress: &'p P,
-) -> Result<Answers<'p, Pieces<&'p mut O>, P>, Stop> {
-    match Pieces::new(alloc, out) {
-        Ok(pieces) => Ok(Answers::new(pieces, count_calls(steps), progress)),
-        Err(_) => Err(Stop::from(Refusal::Memory)),
-    }
-}
-
 /// How a deck ended that was played: its calls made, so many of which found no memory, or refused.
-fn end_of(played: Result<u64, Ended>) -> Ended {
+pub fn end_of(played: Result<u64, Ended>) -> Ended {
     match played {
         Ok(memory) => Ended::with_status(status_of_calls(memory)),
         Err(ended) => ended,
     }
-}
-
-/// The sample database, and the sample program.
-fn read_sample(alloc: Global) -> Result<(Dbd, Psb), Stop>
-    ensures { IfOk result (λ p. p.1.made_for ≡ type_names p.0.types) }
-{
-    let dbd = match sample::database(alloc) {
-        Ok(dbd) => dbd,
-        Err(fault) => return Err(Stop::database(fault, Vec::new(alloc))),
-    };
-    match sample::program(alloc, &dbd) {
-        Ok(psb) => Ok((dbd, psb)),
-        Err(fault) => Err(Stop::program(fault, Vec::new(alloc))),
-    }
-}
-
-/// The steps of the deck that a reader holds, for a program of so many PCBs.
-fn read_input<I: Read>(alloc: Global, pcbs: u8, input: &mut I) -> Result<Vec<Step>, Stop>
-    requires { 0 < pcbs }
-    ensures fit { IfOk result (λ s. All (StepFits pcbs) s.items) }
-    ensures few { IfOk result (λ s. length s.items ≤ 2 ^ 30) }
-{
-    let text = match read_whole(alloc, input) {
-        Ok(text) => text,
-        Err(error) => return Err(Stop::file(Named::Input, error)),
-    };
-    match read_deck(alloc, &text, pcbs) {
-        Ok(steps) => Ok(steps),
-        Err(fault) => Err(Stop::deck(fault, text, Named::Input)),
-    }
-}
-
-/// Plays a deck over a store, which is then of no more use.
-fn play_over_blocks<S: BlockStore + Drop, O: Write, E: Write>(
-    alloc: Global,
-    dbd: &Dbd,
-    psb: &Psb,
-    steps: &[Step],
-    store: S,
-    out: &mut O,
-    err: &mut E,
-) -> Ended
-    requires size { S.size store ≡ dbd.now.block_size }
-    requires matches { psb.now.made_for ≡ type_names dbd.now.types }
-    requires steps { All (StepFits (length psb.now.pcbs)) steps.now }
-    requires count { length steps.now ≤ 2 ^ 30 }
-{
-    let (_, played) = play_deck(alloc, dbd, psb, steps, store, out, err);
-    end_of(played)
-}
-
-/// Plays the deck that a reader holds over the sample, in memory. Says how it ended.
-pub fn play_sample<I: Read, O: Write, E: Write>(
-    alloc: Global,
-    input: &mut I,
-    out: &mut O,
-    err: &mut E,
-) -> Result<Ended, Stop> {
-    let (dbd, psb) = read_sample(alloc)?;
-    let steps = read_input(alloc, psb.pcbs().len() as u8, input)?;
-    let store = sample::volume(alloc, &dbd)?;
-    let mut lines = lines_into(alloc, out, &steps, &Silent)?;
-    Ok(play_over_blocks(alloc, &dbd, &psb, &steps, store, &mut lines, err))
 }
 
 /// The program over a database that a file of its source describes.
@@ -171,19 +85,6 @@ fn read_steps<R: Files<File = File>>(
     }
 }
 
-/// The lines of a deck's calls, whose last go out when they are let go, and which are compared with what is expected; and room for what is said at the end.
-fn held_lines<'p, O: Write, P: Progress>(
-    alloc: Global,
-    out: &'p mut O,
-    steps: &[Step],
-    expectations: Expectations,
-    progress: &'p P,
-) -> Result<(Held<Compared<Answers<'p, Pieces<&'p mut O>, P>>>, Vec<u8>), Stop> {
-    let lines = lines_into(alloc, out, steps, progress)?;
-    let said = Vec::with_capacity(alloc, LINE)?;
-    Ok((Held::over(Compared::over(lines, expectations)), said))
-}
-
 /// What came of a deck that was played over a volume and its log: how it ended and what is said of that, how many of its calls have a line and how many were
 /// answered Full, what it expects, whether the last lines went out, and whether all commits are in the volume.
 #[derive(Drop)]
@@ -202,18 +103,6 @@ struct Played {
 enum Unplayed {
     Unopened(Unopened),
     Memory,
-}
-
-/// Behind how many calls of a deck at least there was a commit, where so many have a line, and there is one behind every so many: a call has its line before
-/// its commit, and that is done before the next call.
-fn committed_calls(every: Option<u32>, answered: u64) -> Option<u64> {
-    match every {
-        Some(every) if every > 0 => {
-            let before = answered.saturating_sub(1);
-            Some(before - before % u64::from(every))
-        }
-        _ => None,
-    }
 }
 
 /// Plays a deck over a store, through a cache of so many blocks, as one unit, or with a commit behind every so many calls. What its calls changed is then
