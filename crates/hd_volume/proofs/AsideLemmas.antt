@@ -1,7 +1,8 @@
 -- Blocks in memory beside block 0, and the bytes that they make with a store.
-use Rattle.std.proofs.Common.{◌≡◌, ◌≢◌, inl, inr, true, false, Bool, IsTrue, ℕ, ◌*◌, ◌<◌, List, [], ◌∷◌, ◌++◌, length, drop, replicate, refl, sym, ap, subst, ◌∙◌, arith}
-use Rattle.std.proofs.lemmas.Bool.{cases_eq}
-use Rattle.std.proofs.lemmas.List.{take_at}
+use Rattle.std.proofs.Common.{◌≡◌, ◌≢◌, inl, inr, true, false, Bool, IsTrue, ℕ, zero, suc, ◌+◌, ◌*◌, ◌<◌, List, [], ◌∷◌, length, get_or, set, take, drop, replicate, refl, sym, ap, subst, ◌∙◌, arith}
+use Rattle.std.proofs.lemmas.Bool.{cases_eq, cases_lt, cases_Bool}
+use Rattle.std.proofs.lemmas.List.{take_at, length-set, nil_from_length, drop_more, drop-set-lt, drop-drop, length-drop, get_or-drop, take_more, take_more_set}
+use Rattle.std.proofs.lemmas.List.Elements.{AllZip-push}
 use Rattle.std.specs.List.{AllByRecursion, AllZip}
 use Rattle.std.specs.Vec.{with_items}
 use Rattle.std.specs.declared.vec.Vec.{Vec}
@@ -10,59 +11,118 @@ use Rattle.hd_bytes.specs.Blocks.{block_of, grown, HasBlock}
 use Rattle.hd_bytes.proofs.BlockLemmas.{length-grown, block-grown, new-block}
 use Rattle.hd_volume.specs.Images.{KeepsFirst}
 use Rattle.hd_volume.specs.declared.buffer.Buffer.{Buffer}
-use Rattle.hd_volume.specs.Buffers.{put_in, put_all, image_of, IsBuffer, AreBuffers, IsBlockLong, HoldsNot, AreApart, AreLater, IsMovedToFront, IsInBytes, IsWrittenBack, AreKept, KeepsImage}
+use Rattle.hd_volume.specs.Buffers.{put_in, put_all, image_of, IsBuffer, AreBuffers, IsBlockLong, HoldsNot, AreApart, AreLater, slot_of, StandFrom, IsElsewhere, StandInSlots, IsExchanged, IsTurned, IsInBytes, IsWrittenBack, AreKept, KeepsImage}
 use Rattle.hd_volume.proofs.BufferLemmas.{Buffers, put-length, put-other, put-both, put-grown, put-stands, length-put_in, other-put_in, own-put_in, unchanged-put, still-buffer, stays-buffer, grown-buffer, grown-buffers, image-length, image-grown, image-hand-written}
 
--- ---- one of them comes to the front
+-- ---- the buffer in hand and one of those aside change places
 
-all-to-front : (P : Buffer → Type 0) (before : List Buffer) (f : Buffer) (behind : List Buffer) → AllByRecursion P (before ++ f ∷ behind) → AllByRecursion P (f ∷ (before ++ behind))
-all-to-front P [] f behind h = h
-all-to-front P (a ∷ before) f behind h = let r : AllByRecursion P (f ∷ (before ++ behind)) = all-to-front P before f behind h.1 in (r.0, (h.0, r.1))
+all-placed : (P : Buffer → Type 0) (hand : Buffer) (aside : List Buffer) (place : ℕ) → AllByRecursion P (hand ∷ aside) → AllByRecursion P (get_or aside place hand ∷ set aside place hand)
+all-placed P hand [] place h = h
+all-placed P hand (x ∷ xs) zero h = (h.1.0, (h.0, h.1.1))
+all-placed P hand (x ∷ xs) (suc place) h =
+    let r : AllByRecursion P (get_or xs place hand ∷ set xs place hand) = all-placed P hand xs place (h.0, h.1.1) in
+    (r.0, (h.1.0, r.1))
 
-apart-to-front : (before : List Buffer) (f : Buffer) (behind : List Buffer) → AreApart (before ++ f ∷ behind) → AreApart (f ∷ (before ++ behind))
-apart-to-front [] f behind h = h
-apart-to-front (a ∷ before) f behind h =
-    let r : AreApart (f ∷ (before ++ behind)) = apart-to-front before f behind h.1 in
-    let o : a.holds ≡ true → AllByRecursion (HoldsNot a.number) (f ∷ (before ++ behind)) = λ held. all-to-front (HoldsNot a.number) before f behind (h.0 held) in
-    ((λ holds. ((λ held e. (o held).0 holds (sym e)), r.0 holds)), ((λ held. (o held).1), r.1))
+apart-placed : (hand : Buffer) (aside : List Buffer) (place : ℕ) → AreApart (hand ∷ aside) → AreApart (get_or aside place hand ∷ set aside place hand)
+apart-placed hand [] place h = h
+apart-placed hand (x ∷ xs) zero h = ((λ holds. ((λ held e. (h.0 held).0 holds (sym e)), h.1.0 holds)), ((λ held. (h.0 held).1), h.1.1))
+apart-placed hand (x ∷ xs) (suc place) h =
+    let r : AreApart (get_or xs place hand ∷ set xs place hand) = apart-placed hand xs place ((λ held. (h.0 held).1), h.1.1) in
+    let o : x.holds ≡ true → AllByRecursion (HoldsNot x.number) (get_or xs place hand ∷ set xs place hand) =
+    λ holds. all-placed (HoldsNot x.number) hand xs place ((λ held e. (h.0 held).0 holds (sym e)), h.1.0 holds) in
+    ((λ held. ((λ holds e. (o holds).0 held (sym e)), r.0 held)), ((λ holds. (o holds).1), r.1))
+
+all-exchanged : (P : Buffer → Type 0) {n : ℕ} {hand hand' : Buffer} {aside aside' : List Buffer} → IsExchanged n hand aside hand' aside' → AllByRecursion P (hand ∷ aside) → AllByRecursion P (hand' ∷ aside')
+all-exchanged P {n} {hand} {hand'} {aside} {aside'} e h = rw (e.came, e.went) (all-placed P hand aside (slot_of (length aside) n) h)
+
+apart-exchanged : {n : ℕ} {hand hand' : Buffer} {aside aside' : List Buffer} → IsExchanged n hand aside hand' aside' → AreApart (hand ∷ aside) → AreApart (hand' ∷ aside')
+apart-exchanged {n} {hand} {hand'} {aside} {aside'} e h = rw (e.came, e.went) (apart-placed hand aside (slot_of (length aside) n) h)
 
 -- what each has, each has then
-pub all-turned : (P : Buffer → Type 0) {old new : List Buffer} → IsMovedToFront old new → AllByRecursion P old → AllByRecursion P new
-all-turned P t h = rw t.are (all-to-front P t.before t.front t.behind (rw t.were at h))
+pub all-turned : (P : Buffer → Type 0) {n : ℕ} {hand hand' : Buffer} {aside aside' : List Buffer} → IsTurned n hand aside hand' aside' → AllByRecursion P (hand ∷ aside) → AllByRecursion P (hand' ∷ aside')
+all-turned P t h = all-exchanged P t.second (all-exchanged P t.first h)
 
-pub later-turned : {size : ℕ} {c : List ℕ} {old new : List Buffer} → IsMovedToFront old new → AreLater size c old → AreLater size c new
-later-turned {size} {c} t p = record {
+pub later-turned : {size n : ℕ} {c : List ℕ} {hand hand' : Buffer} {aside aside' : List Buffer} → IsTurned n hand aside hand' aside' → AreLater size c (hand ∷ aside) → AreLater size c (hand' ∷ aside')
+later-turned {size} {n} {c} t p = record {
   each = all-turned (IsBuffer size c) t p.each;
   later = all-turned (HoldsNot 0) t p.later;
-  apart = rw t.are (apart-to-front t.before t.front t.behind (rw t.were at p.apart));
+  apart = apart-exchanged t.second (apart-exchanged t.first p.apart);
 }
 
--- the first of those aside came to the front, and stands there alone
-pub turned-once : {hand first x y : Buffer} {aside rest : List Buffer} → aside ≡ first ∷ rest → x ≡ first → y ≡ hand → IsMovedToFront (hand ∷ aside) (x ∷ y ∷ rest)
-turned-once {hand} {first} {x} {y} {aside} {rest} is e f = record {
-  before = hand ∷ [];
-  front = first;
-  behind = rest;
-  were = ap (λ (l : List Buffer). hand ∷ l) is;
-  are = rw (e, f) refl;
-}
+-- ---- each block aside stands in its slot
 
--- a buffer between the first and the others
-behind-first : Buffer → List Buffer → List Buffer
-behind-first b [] = []
-behind-first b (x ∷ xs) = x ∷ b ∷ xs
+module _ (count : ℕ) where
+  stand-set : (place k : ℕ) (hand : Buffer) (aside : List Buffer) → StandFrom count k aside → (hand.holds ≡ true → slot_of count hand.number ≡ k + place) → StandFrom count k (set aside place hand)
+  stand-set place k hand [] s h = tt
+  stand-set zero k hand (x ∷ xs) s h = ((λ holds. let own = h holds in omega arith), s.1)
+  stand-set (suc place) k hand (x ∷ xs) s h = (s.0, stand-set place (k + 1) hand xs s.1 (λ holds. let own = h holds in omega arith))
 
--- it came to the front, and one behind it after it
-pub turned-on : {hand first x y new : Buffer} {aside rest others : List Buffer} → aside ≡ first ∷ rest → x ≡ first → y ≡ hand → IsMovedToFront (x ∷ rest) (new ∷ others)
-    → IsMovedToFront (hand ∷ aside) (new ∷ y ∷ others)
-unfolding behind-first
-turned-on {hand} {first} {x} {y} {new} {aside} {rest} {others} is e f t = record {
-  before = hand ∷ t.before;
-  front = t.front;
-  behind = t.behind;
-  were = ap (λ (l : List Buffer). hand ∷ l) (is ∙ ap (λ b. b ∷ rest) (sym e) ∙ t.were);
-  are = ap (λ b. new ∷ b ∷ others) f ∙ ap (behind-first hand) t.are;
-}
+  stand-at : (place k : ℕ) (hand : Buffer) (aside : List Buffer) → place < length aside → StandFrom count k aside → (get_or aside place hand).holds ≡ true → slot_of count (get_or aside place hand).number ≡ k + place
+  stand-at place k hand [] l s holds = absurd (omega arith)
+  stand-at zero k hand (x ∷ xs) l s holds = let own = s.0 holds in omega arith
+  stand-at (suc place) k hand (x ∷ xs) l s holds = let own = stand-at place (k + 1) hand xs (omega arith) s.1 holds in omega arith
+
+  -- what stands behind a slot has not that slot
+  stand-behind : (n k : ℕ) (aside : List Buffer) → slot_of count n < k → StandFrom count k aside → AllByRecursion (IsElsewhere count n) aside
+  stand-behind n k [] l s = tt
+  stand-behind n k (x ∷ xs) l s = ((λ holds e. let own = s.0 holds in omega arith), stand-behind n (k + 1) xs (omega arith) s.1)
+
+  -- the slot where one that holds nothing was put is free
+  free-set : (n place k : ℕ) (hand : Buffer) (aside : List Buffer) → hand.holds ≡ false → slot_of count n ≡ k + place → StandFrom count k aside → AllByRecursion (IsElsewhere count n) (set aside place hand)
+  free-set n place k hand [] none is s = tt
+  free-set n zero k hand (x ∷ xs) none is s = ((λ holds. absurd (cc)), stand-behind n (k + 1) xs (omega arith) s.1)
+  free-set n (suc place) k hand (x ∷ xs) none is s = ((λ holds e. let own = s.0 holds in omega arith), free-set n place (k + 1) hand xs none (omega arith) s.1)
+
+  free-at : (n place : ℕ) (hand : Buffer) (aside : List Buffer) → place < length aside → AllByRecursion (IsElsewhere count n) aside → IsElsewhere count n (get_or aside place hand)
+  free-at n place hand [] l f = absurd (omega arith)
+  free-at n zero hand (x ∷ xs) l f = f.0
+  free-at n (suc place) hand (x ∷ xs) l f = free-at n place hand xs (omega arith) f.1
+
+  other-free : (n : ℕ) (aside : List Buffer) → AllByRecursion (IsElsewhere count n) aside → AllByRecursion (HoldsNot n) aside
+  other-free n [] f = tt
+  other-free n (x ∷ xs) f = ((λ holds e. f.0 holds (ap (slot_of count) e)), other-free n xs f.1)
+
+-- what came out of the slot of the block in hand holds nothing
+none-came : {hand between : Buffer} {aside beside : List Buffer} → 0 < length aside → IsExchanged hand.number hand aside between beside → StandInSlots hand.number aside → between.holds ≡ false
+none-came {hand} {between} {aside} {beside} some e s =
+    let place : ℕ = slot_of (length aside) hand.number in
+    let within : place < length aside = omega arith in
+    let free : IsElsewhere (length aside) hand.number between = subst (IsElsewhere (length aside) hand.number) (sym e.came) (free-at (length aside) hand.number place hand aside within s.free) in
+    let own : between.holds ≡ true → slot_of (length aside) between.number ≡ place =
+    subst (λ (b : Buffer). b.holds ≡ true → slot_of (length aside) b.number ≡ place) (sym e.came) (λ holds. let own = stand-at (length aside) place 0 hand aside within s.own holds in omega arith) in
+    elim (cases_Bool between.holds) [ inl holds ↦ absurd (free holds (own holds)) | inr none ↦ none ]
+
+slots-some : {n : ℕ} {hand hand' : Buffer} {aside aside' : List Buffer} → 0 < length aside → IsTurned n hand aside hand' aside' → StandInSlots hand.number aside → StandInSlots n aside'
+slots-some {n} {hand} {hand'} {aside} {aside'} some t s =
+    let count : ℕ = length aside in
+    let len : length t.beside ≡ count = ap length t.first.went ∙ length-set aside (slot_of count hand.number) hand in
+    let len' : length aside' ≡ count = ap length t.second.went ∙ length-set t.beside (slot_of (length t.beside) n) t.between ∙ len in
+    let none : t.between.holds ≡ false = none-came some t.first s in
+    let stand : StandFrom count 0 t.beside = subst (StandFrom count 0) (sym t.first.went) (stand-set count (slot_of count hand.number) 0 hand aside s.own (λ holds. omega arith)) in
+    let same : slot_of count n ≡ slot_of (length t.beside) n = ap (λ (k : ℕ). slot_of k n) (sym len) in
+    let is : slot_of count n ≡ 0 + slot_of (length t.beside) n = omega arith in
+    record {
+      own =
+          rw len'
+          (subst (StandFrom count 0) (sym t.second.went) (stand-set count (slot_of (length t.beside) n) 0 t.between t.beside stand (λ holds. absurd (cc))));
+      free =
+          rw len'
+          (subst (AllByRecursion (IsElsewhere count n)) (sym t.second.went) (free-set count n (slot_of (length t.beside) n) 0 t.between t.beside none is stand));
+    }
+
+-- blocks stand in their slots then, and that of block n is free
+pub slots-turned : {n : ℕ} {hand hand' : Buffer} {aside aside' : List Buffer} → IsTurned n hand aside hand' aside' → StandInSlots hand.number aside → StandInSlots n aside'
+slots-turned {n} {hand} {hand'} {aside} {aside'} t s =
+    elim (cases_lt 0 (length aside)) [
+      | inl some ↦ slots-some some t s
+      | inr none ↦ (let len : length aside' ≡ 0 =
+          ap length t.second.went ∙ length-set t.beside (slot_of (length t.beside) n) t.between ∙ ap length t.first.went ∙ length-set aside (slot_of (length aside) hand.number) hand ∙ omega arith in
+          subst (StandInSlots n) (sym (nil_from_length aside' len)) (record { own = tt; free = tt }))
+    ]
+
+-- so that none of those aside holds it
+pub other-turned : {n : ℕ} {hand hand' : Buffer} {aside aside' : List Buffer} → IsTurned n hand aside hand' aside' → StandInSlots hand.number aside → AllByRecursion (HoldsNot n) aside'
+other-turned {n} {hand} {hand'} {aside} {aside'} t s = other-free (length aside') n aside' (slots-turned t s).free
 
 -- ---- the bytes with their blocks put in
 
@@ -101,20 +161,32 @@ module _ (size : ℕ) (c : List ℕ) where
       ap (λ (t : List ℕ). put_in size t a) (put-past b rest m k l.1 h.1 (λ held. (o held).1))
       ∙ put-either size (put_all size c rest) b a m l.0 (λ holds. rw n (k.there holds)) (λ holds. rw n (h.0.there holds)) (λ held holds e. (o held).0 holds (sym e))
 
-  put-to-front : (before : List Buffer) (f : Buffer) (behind : List Buffer) → AllByRecursion (IsBlockLong size) (before ++ f ∷ behind)
-      → AllByRecursion (IsBuffer size c) (before ++ f ∷ behind) → AreApart (before ++ f ∷ behind) → put_all size c (f ∷ (before ++ behind)) ≡ put_all size c (before ++ f ∷ behind)
-  put-to-front [] f behind l h o = refl
-  put-to-front (a ∷ before) f behind l h o =
-      let l' : AllByRecursion (IsBlockLong size) (f ∷ (before ++ behind)) = all-to-front (IsBlockLong size) before f behind l.1 in
-      let h' : AllByRecursion (IsBuffer size c) (f ∷ (before ++ behind)) = all-to-front (IsBuffer size c) before f behind h.1 in
-      let o' : a.holds ≡ true → AllByRecursion (HoldsNot a.number) (f ∷ (before ++ behind)) = λ held. all-to-front (HoldsNot a.number) before f behind (o.0 held) in
-      let n : length (put_all size c (before ++ behind)) ≡ length c = length-put_all (before ++ behind) l'.1 h'.1 in
-      put-either size (put_all size c (before ++ behind)) a f l.0 l'.0 (λ holds. rw n (h.0.there holds)) (λ holds. rw n (h'.0.there holds)) (λ held holds e. (o' held).0 holds (sym e))
-      ∙ ap (λ (t : List ℕ). put_in size t a) (put-to-front before f behind l.1 h.1 o.1)
+  put-next : (a b : Buffer) (rest : List Buffer) → AllByRecursion (IsBlockLong size) (a ∷ b ∷ rest) → AllByRecursion (IsBuffer size c) (a ∷ b ∷ rest) → AreApart (a ∷ b ∷ rest)
+      → put_all size c (b ∷ a ∷ rest) ≡ put_all size c (a ∷ b ∷ rest)
+  put-next a b rest l h o =
+      let n : length (put_all size c rest) ≡ length c = length-put_all rest l.1.1 h.1.1 in
+      put-either size (put_all size c rest) a b l.0 l.1.0 (λ holds. rw n (h.0.there holds)) (λ holds. rw n (h.1.0.there holds)) (λ held holds e. (o.0 held).0 holds (sym e))
 
--- they make the same bytes, whichever of them is at the front
-pub put-turned : {size : ℕ} {c : List ℕ} {old new : List Buffer} → IsMovedToFront old new → AllByRecursion (IsBlockLong size) old → AreLater size c old → put_all size c new ≡ put_all size c old
-put-turned {size} {c} t l p = rw (t.are, t.were) (put-to-front size c t.before t.front t.behind (rw t.were at l) (rw t.were at p.each) (rw t.were at p.apart))
+  put-placed : (hand : Buffer) (aside : List Buffer) (place : ℕ) → AllByRecursion (IsBlockLong size) (hand ∷ aside) → AllByRecursion (IsBuffer size c) (hand ∷ aside) → AreApart (hand ∷ aside)
+      → put_all size c (get_or aside place hand ∷ set aside place hand) ≡ put_all size c (hand ∷ aside)
+  put-placed hand [] place l h o = refl
+  put-placed hand (x ∷ xs) zero l h o = put-next hand x xs l h o
+  put-placed hand (x ∷ xs) (suc place) l h o =
+      let beside : AreApart (hand ∷ xs) = ((λ held. (o.0 held).1), o.1.1) in
+      let apart : x.holds ≡ true → AllByRecursion (HoldsNot x.number) (hand ∷ xs) = λ holds. ((λ held e. (o.0 held).0 holds (sym e)), o.1.0 holds) in
+      put-next x (get_or xs place hand) (set xs place hand) (l.1.0, all-placed (IsBlockLong size) hand xs place (l.0, l.1.1)) (h.1.0, all-placed (IsBuffer size c) hand xs place (h.0, h.1.1))
+      ((λ holds. all-placed (HoldsNot x.number) hand xs place (apart holds)), apart-placed hand xs place beside)
+      ∙ ap (λ (t : List ℕ). put_in size t x) (put-placed hand xs place (l.0, l.1.1) (h.0, h.1.1) beside) ∙ put-next hand x xs l h o
+
+put-exchanged : {size n : ℕ} {c : List ℕ} {hand hand' : Buffer} {aside aside' : List Buffer} → IsExchanged n hand aside hand' aside' → AllByRecursion (IsBlockLong size) (hand ∷ aside)
+    → AllByRecursion (IsBuffer size c) (hand ∷ aside) → AreApart (hand ∷ aside) → put_all size c (hand' ∷ aside') ≡ put_all size c (hand ∷ aside)
+put-exchanged {size} {n} {c} {hand} {hand'} {aside} {aside'} e l h o = rw (e.came, e.went) (put-placed size c hand aside (slot_of (length aside) n) l h o)
+
+-- they make the same bytes, wherever they stand
+pub put-turned : {size n : ℕ} {c : List ℕ} {hand hand' : Buffer} {aside aside' : List Buffer} → IsTurned n hand aside hand' aside' → AllByRecursion (IsBlockLong size) (hand ∷ aside)
+    → AreLater size c (hand ∷ aside) → put_all size c (hand' ∷ aside') ≡ put_all size c (hand ∷ aside)
+put-turned {size} {n} {c} t l p =
+    put-exchanged t.second (all-exchanged (IsBlockLong size) t.first l) (all-exchanged (IsBuffer size c) t.first p.each) (apart-exchanged t.first p.apart) ∙ put-exchanged t.first l p.each p.apart
 
 -- ---- what the bytes show of them
 
@@ -209,6 +281,16 @@ empty-later size c bs h = record {
   apart = none-apart bs h;
 }
 
+none-stand : (count k : ℕ) (bs : List Buffer) → AllByRecursion (λ b. b.holds ≡ false) bs → StandFrom count k bs
+none-stand count k [] h = tt
+none-stand count k (b ∷ rest) h = let none : b.holds ≡ false = h.0 in ((λ holds. absurd (cc)), none-stand count (k + 1) rest h.1)
+
+pub empty-slots : (n : ℕ) (bs : List Buffer) → AllByRecursion (λ b. b.holds ≡ false) bs → StandInSlots n bs
+empty-slots n bs h = record {
+  own = none-stand (length bs) 0 bs h;
+  free = none-held (IsElsewhere (length bs) n) (λ b none holds. absurd (cc)) bs h;
+}
+
 -- ---- a block is brought to the one in hand
 
 -- another block was brought to a buffer, which none of those aside holds
@@ -277,6 +359,55 @@ module _ {size : ℕ} {c : List ℕ} {b : Buffer} (m : IsBlockLong size b) where
   pub put-under : {rest : List Buffer} → AreLater size c (b ∷ rest) → AllByRecursion (IsBlockLong size) rest → put_all size (put_in size c b) rest ≡ put_all size c (b ∷ rest)
   put-under {rest} p l = put-past size c b rest m p.each.0 l p.each.1 p.apart.0
 
+all-from : (P : Buffer → Type 0) (i : ℕ) (bs : List Buffer) → AllByRecursion P bs → AllByRecursion P (drop i bs)
+all-from P zero bs h = h
+all-from P (suc i) [] h = tt
+all-from P (suc i) (x ∷ xs) h = all-from P i xs h.1
+
+-- One of several was written back, those before it were before: what the others and the store's bytes make.
+pub record IsNext (size i : ℕ) (c d : List ℕ) (b b' : Buffer) (bs : List Buffer) : Type 0 where
+  pub within : i < length bs
+  pub is : b ≡ get_or bs i b
+  pub long : AllByRecursion (IsBlockLong size) bs
+  pub others : AreLater size c (drop i bs)
+  pub bytes : d ≡ put_in size c b
+
+module _ {size i : ℕ} {c d : List ℕ} {b b' : Buffer} {bs : List Buffer} (n : IsNext size i c d b b' bs) where
+  next-from : drop i bs ≡ b ∷ drop (i + 1) bs
+  next-from = let l : i < length bs = n.within in drop_more bs i b l ∙ ap (λ (x : Buffer). x ∷ drop (i + 1) bs) (sym n.is)
+
+  pub next-rest : drop (i + 1) (set bs i b') ≡ drop (i + 1) bs
+  next-rest = drop-set-lt (i + 1) bs i b' (omega arith)
+
+  next-others : AreLater size c (b ∷ drop (i + 1) bs)
+  next-others = subst (AreLater size c) next-from n.others
+
+  next-long : AllByRecursion (IsBlockLong size) (b ∷ drop (i + 1) bs)
+  next-long = subst (AllByRecursion (IsBlockLong size)) next-from (all-from (IsBlockLong size) i bs n.long)
+
+  pub next-later : AreLater size d (drop (i + 1) (set bs i b'))
+  next-later = rw (next-rest, n.bytes) (later-under next-long.0 next-others)
+
+  pub next-put : put_all size d (drop (i + 1) (set bs i b')) ≡ put_all size c (drop i bs)
+  next-put = rw (next-rest, n.bytes, next-from) (put-under next-long.0 next-others next-long.1)
+
+  -- it is the first of those that are left, a buffer of the store
+  pub next-buffer : IsBlockLong size b × IsBuffer size c b
+  next-buffer = (next-long.0, next-others.each.0)
+
+-- those up to it were written back then, and the others are as they were
+pub next-written : (olds bs : List Buffer) (i : ℕ) (b b' : Buffer) → i < length bs → b ≡ get_or bs i b → drop i bs ≡ drop i olds → AllZip IsWrittenBack (take i olds) (take i bs) → IsWrittenBack b b'
+    → AllZip IsWrittenBack (take (i + 1) olds) (take (i + 1) (set bs i b'))
+next-written olds bs i b b' within is rest w v =
+    let len = ap length rest in
+    let there : i < length olds = omega (arith, simp length-drop at len) in
+    let zeroth : i + 0 ≡ i = omega arith in
+    let was : get_or olds i b ≡ b = sym (rw zeroth at (get_or-drop i olds 0 b)) ∙ ap (λ (l : List Buffer). get_or l 0 b) (sym rest) ∙ (rw zeroth at (get_or-drop i bs 0 b)) ∙ sym is in
+    rw (take_more olds i b there, take_more_set bs i b' within, was) (AllZip-push IsWrittenBack (take i olds) (take i bs) b b' w v)
+
+pub next-drop : (olds bs : List Buffer) (i : ℕ) (b' : Buffer) → drop i bs ≡ drop i olds → drop (i + 1) (set bs i b') ≡ drop (i + 1) olds
+next-drop olds bs i b' rest = drop-set-lt (i + 1) bs i b' (omega arith) ∙ sym (drop-drop 1 i bs) ∙ ap (drop 1) rest ∙ drop-drop 1 i olds
+
 length-written : (old new : List Buffer) → AllZip IsWrittenBack old new → length new ≡ length old
 length-written [] [] w = refl
 length-written [] (y ∷ ys) w = absurd w
@@ -298,6 +429,24 @@ written-apart [] [] w h = tt
 written-apart [] (y ∷ ys) w h = absurd w
 written-apart (x ∷ xs) [] w h = absurd w
 written-apart (x ∷ xs) (y ∷ ys) w h = ((λ holds. rw w.0.number (written-others x.number xs ys w.1 (h.0 (sym w.0.holds ∙ holds)))), written-apart xs ys w.1 h.1)
+
+stand-written : (count k : ℕ) (old new : List Buffer) → AllZip IsWrittenBack old new → StandFrom count k old → StandFrom count k new
+stand-written count k [] [] w h = tt
+stand-written count k [] (y ∷ ys) w h = absurd w
+stand-written count k (x ∷ xs) [] w h = absurd w
+stand-written count k (x ∷ xs) (y ∷ ys) w h = ((λ holds. rw w.0.number (h.0 (sym w.0.holds ∙ holds))), stand-written count (k + 1) xs ys w.1 h.1)
+
+free-written : (count n : ℕ) (old new : List Buffer) → AllZip IsWrittenBack old new → AllByRecursion (IsElsewhere count n) old → AllByRecursion (IsElsewhere count n) new
+free-written count n [] [] w h = tt
+free-written count n [] (y ∷ ys) w h = absurd w
+free-written count n (x ∷ xs) [] w h = absurd w
+free-written count n (x ∷ xs) (y ∷ ys) w h = ((λ holds. rw w.0.number (h.0 (sym w.0.holds ∙ holds))), free-written count n xs ys w.1 h.1)
+
+-- they stand in their slots as before
+pub slots-written : {n : ℕ} {old new : List Buffer} → AllZip IsWrittenBack old new → StandInSlots n old → StandInSlots n new
+slots-written {n} {old} {new} w s =
+    let len : length new ≡ length old = length-written old new w in
+    record { own = rw len (stand-written (length old) 0 old new w s.own); free = rw len (free-written (length old) n old new w s.free) }
 
 written-each : (size : ℕ) (c d : List ℕ) → length d ≡ length c → (old new : List Buffer) → AllZip IsWrittenBack old new → AllByRecursion (IsBuffer size c) old → AllByRecursion (Shows size d) old
     → AllByRecursion (IsBuffer size d) new
@@ -390,12 +539,13 @@ module _ {size store_size store_size' : ℕ} {c c' : List ℕ} {s s' : Bool} {he
     others = λ after.
         let before : IsTrue s = rw (← sound) after in
         rw (is before, k.same_size) (grown-later (k.others before) blocks);
+    slots = λ after. k.slots (rw (← sound) after);
   }
 
   -- and where another block came to hand
   pub brought-kept : {hand' : Buffer} {aside' : List Buffer} → store_size' ≡ store_size → s' ≡ s → AllByRecursion (IsBlockLong store_size) (hand' ∷ aside') → (IsTrue s → length c' ≡ length c)
-      → (IsTrue s → KeepsFirst store_size c c') → (IsTrue s → AreLater store_size c' (hand' ∷ aside')) → AreKept store_size' c' s' size head hand' aside'
-  brought-kept {hand'} {aside'} same sound long len first later =
+      → (IsTrue s → KeepsFirst store_size c c') → (IsTrue s → AreLater store_size c' (hand' ∷ aside')) → (IsTrue s → StandInSlots hand'.number aside') → AreKept store_size' c' s' size head hand' aside'
+  brought-kept {hand'} {aside'} same sound long len first later slots =
       let long' : AllByRecursion (IsBlockLong size) (hand' ∷ aside') = subst (λ (z : ℕ). AllByRecursion (IsBlockLong z) (hand' ∷ aside')) k.same_size long in
       let later' : IsTrue s → AreLater size c' (hand' ∷ aside') = subst (λ (z : ℕ). IsTrue s → AreLater z c' (hand' ∷ aside')) k.same_size later in
       let first' : IsTrue s → KeepsFirst size c c' = subst (λ (z : ℕ). IsTrue s → KeepsFirst z c c') k.same_size first in
@@ -418,6 +568,7 @@ module _ {size store_size store_size' : ℕ} {c c' : List ℕ} {s s' : Bool} {he
               later = all.later.0;
             };
         others = λ after. later' (rw (← sound) after);
+        slots = λ after. slots (rw (← sound) after);
       }
 
 -- the image is as it was then

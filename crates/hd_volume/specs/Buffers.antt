@@ -1,5 +1,5 @@
 -- Blocks of a store in memory, and the image that they and the store make.
-use Rattle.std.specs.Prelude.{◌≡◌, ◌≢◌, ⊤, ℕ, ◌<◌, ◌≤◌, Bool, true, false, cond, IsTrue, List, [], ◌∷◌, ◌++◌, Result, vec_len}
+use Rattle.std.specs.Prelude.{◌≡◌, ◌≢◌, ⊤, ℕ, ◌+◌, ◌%◌, ◌<◌, ◌≤◌, Bool, true, false, cond, IsTrue, List, [], ◌∷◌, length, Result, vec_len, slice_index_or, slice_set}
 use Rattle.std.specs.List.{AllByRecursion}
 use Rattle.hd_bytes.specs.Blocks.{block_of, with_block, HasBlock}
 use Rattle.hd_dbd.specs.declared.answer.Refused.{Refused}
@@ -51,13 +51,35 @@ pub record AreLater (size : ℕ) (contents : List ℕ) (buffers : List Buffer) :
   pub later : AllByRecursion (HoldsNot 0) buffers
   pub apart : AreApart buffers
 
--- One of the buffers came to the front; the others follow in the order in which they were.
-pub record IsMovedToFront (old new : List Buffer) : Type 0 where
-  pub before : List Buffer
-  pub front : Buffer
-  pub behind : List Buffer
-  pub were : old ≡ before ++ front ∷ behind
-  pub are : new ≡ front ∷ (before ++ behind)
+-- the place of block n among so many slots
+abbrev pub slot_of : ℕ → ℕ → ℕ
+slot_of count n = n % count
+
+-- of so many slots, each buffer from a place on stands in that of its block, if it holds one
+abbrev pub StandFrom : ℕ → ℕ → List Buffer → Type 0
+StandFrom count place [] = ⊤
+StandFrom count place (b ∷ rest) = (b.holds ≡ true → slot_of count b.number ≡ place) × StandFrom count (place + 1) rest
+
+-- a buffer's block has another of so many slots than block n, if it holds one
+abbrev pub IsElsewhere : ℕ → ℕ → Buffer → Type 0
+IsElsewhere count n b = b.holds ≡ true → slot_of count b.number ≢ slot_of count n
+
+-- each block aside stands in the slot of its number, and none in that of block n
+pub record StandInSlots (n : ℕ) (aside : List Buffer) : Type 0 where
+  pub own : StandFrom (length aside) 0 aside
+  pub free : AllByRecursion (IsElsewhere (length aside) n) aside
+
+-- the buffer in hand went into the slot of block n, and the one that stood there is in hand
+pub record IsExchanged (n : ℕ) (hand : Buffer) (aside : List Buffer) (hand2 : Buffer) (aside2 : List Buffer) : Type 0 where
+  pub came : hand2 ≡ slice_index_or aside (slot_of (length aside) n) hand
+  pub went : aside2 ≡ slice_set aside (slot_of (length aside) n) hand
+
+-- the buffer in hand went into the slot of its own block, and the one in the slot of block n came to hand
+pub record IsTurned (n : ℕ) (hand : Buffer) (aside : List Buffer) (hand2 : Buffer) (aside2 : List Buffer) : Type 0 where
+  pub between : Buffer
+  pub beside : List Buffer
+  pub first : IsExchanged hand.number hand aside between beside
+  pub second : IsExchanged n between beside hand2 aside2
 
 -- a buffer's block stands in the bytes, if it holds one
 abbrev pub IsInBytes : ℕ → List ℕ → Buffer → Type 0
@@ -105,6 +127,7 @@ pub record AreKept (store_size : ℕ) (contents : List ℕ) (is_sound : Bool) (s
   pub head_number : head.number ≡ 0
   pub ready : IsTrue is_sound → AreBuffers size contents head hand
   pub others : IsTrue is_sound → AreLater size contents (hand ∷ aside)
+  pub slots : IsTrue is_sound → StandInSlots hand.number aside
 
 -- A call that brings at most one block to hand, and changes nothing of the image; where the store has all of it, so it does
 -- afterwards.

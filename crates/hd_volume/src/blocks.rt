@@ -1,4 +1,4 @@
-ghost use Rattle.std.specs.Prelude.{◌≡◌, ◌≢◌, ℕ, ◌+◌, ◌*◌, ◌/◌, ◌%◌, ◌≤◌, ◌<◌, true, false, vec_len, IsTrue, length, ◌∷◌, replicate, None, OnOk, OnErr, IfOk, IfErr, IfSome, slice_index};
+ghost use Rattle.std.specs.Prelude.{◌≡◌, ◌≢◌, ℕ, ◌+◌, ◌*◌, ◌/◌, ◌%◌, ◌≤◌, ◌<◌, true, false, vec_len, IsTrue, length, ◌∷◌, replicate, None, OnOk, OnErr, IfOk, IfErr, IfSome, slice_index, max};
 ghost use Rattle.std.specs.List.{AllByRecursion, AllZip};
 ghost use Rattle.hd_dbd.specs.Refusals.{OnlyDevice, OnlyMemory};
 ghost use Rattle.hd_bytes.specs.Blocks.{block_of, grown, HasBlock};
@@ -7,7 +7,8 @@ ghost use Rattle.byteorder.specs.Endian.{big_bytes};
 ghost use Rattle.hd_volume.specs.Edits.{IsTaken, IsGiven};
 ghost use Rattle.hd_stores.specs.Stores.{IsCommit, FailsCommit, CountsDevice, StaysSound, RefusesGrowth, IsGivenBack};
 ghost use Rattle.hd_volume.specs.Images.{ChangesBlock, KeepsFirst};
-ghost use Rattle.hd_volume.specs.Buffers.{AreBuffers, AreLater, IsBlockLong, HoldsNot, IsMovedToFront, AreInBytes, IsWrittenBack, put_all, KeepsShown, image_of, ChangesHand, ChangesHead, KeepsImage};
+ghost use Rattle.hd_volume.specs.declared.blocks.TheConstants.{LEAST_ASIDE};
+ghost use Rattle.hd_volume.specs.Buffers.{AreBuffers, AreLater, IsBlockLong, HoldsNot, StandInSlots, IsExchanged, IsTurned, AreInBytes, IsWrittenBack, put_all, KeepsShown, image_of, ChangesHand, ChangesHead, KeepsImage};
 
 use crate::buffer::{Buffer, bring, hold_zeros, write_back};
 use hd_block::Block;
@@ -18,11 +19,11 @@ use std::alloc::{AllocError, Global};
 use std::marker::Model;
 use std::mem::swap;
 
-/// How many blocks that were in hand are kept in memory beside the one that is.
-const ASIDE: usize = 3;
+/// How many blocks at least are kept in memory beside block 0 and the one in hand.
+pub const LEAST_ASIDE: usize = 3;
 
-/// The blocks of a store, of which block 0 and four more are in memory: the one in hand, and those that were in hand
-/// before it, the last of them first.
+/// The blocks of a store, of which block 0 and some more are in memory: the one in hand, and those that were in hand
+/// before it, each in the slot of its number.
 #[derive(Drop)]
 pub struct Blocks<S: BlockStore> {
     store: S,
@@ -52,8 +53,9 @@ impl<S: BlockStore> Model for Blocks<S> {
 }
 
 impl<S: BlockStore> Blocks<S> {
-    /// The blocks of a store, whose block 0 is read if it has one. A refusal gives the store back.
-    pub fn new(alloc: Global, mut store: S) -> Result<Blocks<S>, (S, Refused)>
+    /// The blocks of a store, whose block 0 is read if it has one, with so many slots aside, three at least; memory that
+    /// is lacking beyond three only makes fewer. A refusal gives the store back.
+    pub fn new(alloc: Global, mut store: S, kept: usize) -> Result<Blocks<S>, (S, Refused)>
         ensures image { IfOk result (λ b. IsTrue (S.is_sound store) → (b.image ≡ S.contents store) × (b.stored ≡ S.contents store)) }
         ensures store { IfOk result (λ b. (b.is_sound ≡ S.is_sound store) × (b.failures ≡ S.failures store) × (b.room ≡ S.room store) × (b.committed ≡ S.committed store) × (b.size ≡ S.size store)) }
         ensures refusal { IfErr result (λ e. IsGivenBack S.size S.contents S.is_sound S.failures S.committed store e) }
@@ -65,7 +67,7 @@ impl<S: BlockStore> Blocks<S> {
         let Ok(hand) = empty_buffer(alloc, block_size) else {
             return Err((store, Refused::Memory));
         };
-        let Ok(aside) = empty_buffers(alloc, block_size) else {
+        let Ok(aside) = empty_buffers(alloc, block_size, kept) else {
             return Err((store, Refused::Memory));
         };
         if store.length() >= block_size as u64 {
@@ -361,16 +363,36 @@ fn empty_buffer(alloc: Global, block_size: usize) -> Result<Buffer, AllocError>
     })
 }
 
-/// As many of them as are kept aside.
-fn empty_buffers(alloc: Global, block_size: usize) -> Result<Vec<Buffer>, AllocError>
+/// So many of them, three at least; memory that is lacking beyond three only makes fewer.
+fn empty_buffers(alloc: Global, block_size: usize, kept: usize) -> Result<Vec<Buffer>, AllocError>
     ensures len { IfOk result (λ v. AllByRecursion (IsBlockLong block_size) v.items) }
     ensures empty { IfOk result (λ v. AllByRecursion (λ b. b.holds ≡ false) v.items) }
+    ensures least { IfOk result (λ v. LEAST_ASIDE ≤ vec_len v) }
+    ensures most { IfOk result (λ v. vec_len v ≤ max LEAST_ASIDE kept) }
 {
     let mut buffers = Vec::new(alloc);
-    for _ in 0..ASIDE {
-        buffers.push(empty_buffer(alloc, block_size)?)?;
+    for _ in 0..LEAST_ASIDE {
+        add_buffer(alloc, block_size, &mut buffers)?;
+    }
+    for _ in LEAST_ASIDE..kept {
+        if add_buffer(alloc, block_size, &mut buffers).is_err() {
+            return Ok(buffers);
+        }
     }
     Ok(buffers)
+}
+
+/// Adds one to several that hold no block; want of memory leaves them as they were.
+fn add_buffer(alloc: Global, block_size: usize, buffers: &mut Vec<Buffer>) -> Result<(), AllocError>
+    requires len { AllByRecursion (IsBlockLong block_size) buffers.old.items }
+    requires empty { AllByRecursion (λ b. b.holds ≡ false) buffers.old.items }
+    ensures len { AllByRecursion (IsBlockLong block_size) buffers.new.items }
+    ensures empty { AllByRecursion (λ b. b.holds ≡ false) buffers.new.items }
+    ensures more { OnOk result (vec_len buffers.new ≡ vec_len buffers.old + 1) }
+    ensures same { OnErr result (vec_len buffers.new ≡ vec_len buffers.old) }
+{
+    buffers.push(empty_buffer(alloc, block_size)?)?;
+    Ok(())
 }
 
 /// Whether a buffer holds a block.
@@ -392,12 +414,14 @@ fn bring_other<S: BlockStore>(
     requires ready { IsTrue (S.is_sound store.old) → AreLater (S.size store.old) (S.contents store.old) (hand.old ∷ aside.old) }
     requires there { IsTrue (S.is_sound store.old) → (0 < n) × HasBlock (S.size store.old) (S.contents store.old) n }
     requires other { HoldsNot n hand.old }
+    requires slots { IsTrue (S.is_sound store.old) → StandInSlots hand.old.number aside.old }
     ensures contents { OnOk result (IsTrue (S.is_sound store.old) → KeepsShown (S.size store.old) (S.contents store.old) hand.old aside.old (S.contents store.new) hand.new aside.new) }
     ensures length { OnOk result (IsTrue (S.is_sound store.old) → length (S.contents store.new) ≡ length (S.contents store.old)) }
     ensures first { OnOk result (IsTrue (S.is_sound store.old) → KeepsFirst (S.size store.old) (S.contents store.old) (S.contents store.new)) }
     ensures stands { OnOk result (IsTrue (S.is_sound store.old) → AreInBytes (S.size store.old) (S.contents store.old) hand.old aside.old → S.contents store.new ≡ S.contents store.old) }
     ensures ready { OnOk result (IsTrue (S.is_sound store.old) → AreLater (S.size store.old) (S.contents store.new) (hand.new ∷ aside.new)) }
     ensures holds { OnOk result ((hand.new.holds ≡ true) × (hand.new.number ≡ n)) }
+    ensures slots { OnOk result (IsTrue (S.is_sound store.old) → StandInSlots hand.new.number aside.new) }
     ensures len { AllByRecursion (IsBlockLong (S.size store.old)) (hand.new ∷ aside.new) }
     ensures refusal { OnlyDevice result }
     ensures counts { CountsDevice result (S.failures store.old) (S.failures store.new) }
@@ -424,11 +448,13 @@ fn bring_zeros<S: BlockStore>(
     requires ready { IsTrue (S.is_sound store.old) → AreLater (S.size store.old) (S.contents store.old) (hand.old ∷ aside.old) }
     requires there { IsTrue (S.is_sound store.old) → (0 < n) × HasBlock (S.size store.old) (S.contents store.old) n }
     requires zeros { IsTrue (S.is_sound store.old) → block_of (S.size store.old) (S.contents store.old) n ≡ replicate (S.size store.old) 0 }
+    requires slots { IsTrue (S.is_sound store.old) → StandInSlots hand.old.number aside.old }
     ensures contents { OnOk result (IsTrue (S.is_sound store.old) → KeepsShown (S.size store.old) (S.contents store.old) hand.old aside.old (S.contents store.new) hand.new aside.new) }
     ensures length { OnOk result (IsTrue (S.is_sound store.old) → length (S.contents store.new) ≡ length (S.contents store.old)) }
     ensures first { OnOk result (IsTrue (S.is_sound store.old) → KeepsFirst (S.size store.old) (S.contents store.old) (S.contents store.new)) }
     ensures ready { OnOk result (IsTrue (S.is_sound store.old) → AreLater (S.size store.old) (S.contents store.new) (hand.new ∷ aside.new)) }
     ensures holds { OnOk result ((hand.new.holds ≡ true) × (hand.new.number ≡ n)) }
+    ensures slots { OnOk result (IsTrue (S.is_sound store.old) → StandInSlots hand.new.number aside.new) }
     ensures len { AllByRecursion (IsBlockLong (S.size store.old)) (hand.new ∷ aside.new) }
     ensures refusal { OnlyDevice result }
     ensures counts { CountsDevice result (S.failures store.old) (S.failures store.new) }
@@ -448,21 +474,28 @@ fn bring_zeros<S: BlockStore>(
     Ok(())
 }
 
-/// Turns the buffers until a block that is not in hand is, if one of them holds it; else all of them, so that the last is.
+/// Puts the block in hand into its slot, and takes in hand what stands in the slot of block n; whether that is block n.
 fn turn_to(hand: &mut Buffer, aside: &mut [Buffer], n: u32) -> bool
     requires other { HoldsNot n hand.old }
-    ensures turned { IsMovedToFront (hand.old ∷ aside.old) (hand.new ∷ aside.new) }
+    ensures turned { IsTurned n hand.old aside.old hand.new aside.new }
     ensures found { result ≡ true → (hand.new.holds ≡ true) × (hand.new.number ≡ n) }
-    ensures none { result ≡ false → AllByRecursion (HoldsNot n) (hand.new ∷ aside.new) }
+    ensures none { result ≡ false → StandInSlots hand.old.number aside.old → AllByRecursion (HoldsNot n) (hand.new ∷ aside.new) }
 {
-    let Some((first, rest)) = aside.split_first_mut() else {
-        return false;
-    };
-    swap(hand, first);
-    if hand.holds && hand.number == n {
-        return true;
+    let own = hand.number;
+    exchange(hand, aside, own);
+    exchange(hand, aside, n);
+    is_held(hand, n)
+}
+
+/// Exchanges the buffer in hand for the one in the slot of a block, where there are slots.
+fn exchange(hand: &mut Buffer, aside: &mut [Buffer], n: u32)
+    ensures { IsExchanged n hand.old aside.old hand.new aside.new }
+{
+    let count = aside.len();
+    if count == 0 {
+        return;
     }
-    turn_to(hand, rest, n)
+    swap(hand, &mut aside[n as usize % count]);
 }
 
 /// Writes the blocks of several buffers to the store, those that were changed.
@@ -479,11 +512,9 @@ fn write_all<S: BlockStore>(store: &mut S, buffers: &mut [Buffer]) -> Result<(),
     ensures size { S.size store.new ≡ S.size store.old }
     ensures room { S.room store.new ≡ S.room store.old }
 {
-    let Some((first, rest)) = buffers.split_first_mut() else {
-        return Ok(());
-    };
-    write_back(store, first)?;
-    write_all(store, rest)?;
+    for buffer in buffers {
+        write_back(store, buffer)?;
+    }
     Ok(())
 }
 

@@ -4,6 +4,7 @@ ghost use Rattle.hd_volume.specs.Spacing.{IsPlain};
 ghost use Rattle.hd_volume.specs.Creates.{IsCreated, IsGivenNew, head_list};
 ghost use Rattle.hd_volume.specs.declared.load.TheConstants.{MOST_BLOCKS};
 
+use crate::blocks::LEAST_ASIDE;
 use crate::header::NEWEST_VERSION;
 use crate::volume::Volume;
 use hd_dbd::{Dbd, Refused};
@@ -15,9 +16,28 @@ impl<S: BlockStore> Volume<S> {
     /// gives the store back.
     pub fn create(
         alloc: Global,
+        store: S,
+        dbd: &Dbd,
+        largest: u32,
+    ) -> Result<Volume<S>, (S, Refused)>
+        requires size { S.size store ≡ dbd.now.block_size }
+        requires empty { IsTrue (S.is_sound store) → S.contents store ≡ [] }
+        requires bounds { (0 < largest) × (largest ≤ MOST_BLOCKS) }
+        ensures created { IfOk result (λ v. IsTrue (S.is_sound store) → IsCreated dbd.now.name dbd.now.block_size largest v) }
+        ensures store { IfOk result (λ v. (v.is_sound ≡ S.is_sound store) × (v.failures ≡ S.failures store) × (v.committed ≡ S.committed store) × (v.size ≡ S.size store) × (v.sizes ≡ stored_sizes dbd.now.types) × IsPlain v) }
+        ensures refusal { IfErr result (λ e. IsGivenNew S.size S.contents S.is_sound S.failures S.committed store e) }
+    {
+        Volume::create_keeping(alloc, store, dbd, largest, LEAST_ASIDE)
+    }
+
+    /// The same, with so many blocks of the volume kept in memory beside block 0 and the one in hand, three at least and no
+    /// more than the largest count; memory that is lacking beyond three only keeps fewer.
+    pub fn create_keeping(
+        alloc: Global,
         mut store: S,
         dbd: &Dbd,
         largest: u32,
+        kept: usize,
     ) -> Result<Volume<S>, (S, Refused)>
         requires size { S.size store ≡ dbd.now.block_size }
         requires empty { IsTrue (S.is_sound store) → S.contents store ≡ [] }
@@ -29,7 +49,7 @@ impl<S: BlockStore> Volume<S> {
         if let Err(refused) = store.grow(1) {
             return Err((store, refused));
         }
-        match Volume::load(alloc, store, dbd) {
+        match Volume::load_with(alloc, store, dbd, kept.min(largest as usize)) {
             Ok(mut volume) => {
                 volume.format(dbd.name().bytes(), largest);
                 Ok(volume)

@@ -14,8 +14,8 @@ ghost use Rattle.hd_volume.specs.Steps.{IsStep};
 ghost use Rattle.hd_volume.specs.Calls.{IsCall, IsRead, HasSegment, KeepsSize, IsWritten, IsFreed};
 ghost use Rattle.hd_block.specs.Sizes.{size_at};
 
-use crate::blocks::Blocks;
-use crate::load::{size_table, survey};
+use crate::blocks::{Blocks, LEAST_ASIDE};
+use crate::load::{most_kept, size_table, survey};
 use crate::space::{Space, open_block};
 use crate::spacing::{Hints, MOST_CALLS, NO_SPACING};
 use hd_block::size_at;
@@ -40,7 +40,7 @@ pub const HEIGHT: usize = 40;
 
 /// A volume over a store: a finite map from addresses to segments, and blocks for an index.
 ///
-/// It keeps block 0 and four blocks more in memory, and a few bytes of each block.
+/// It keeps block 0 and some blocks more in memory, and a few bytes of each block.
 #[derive(Drop)]
 pub struct Volume<S: BlockStore> {
     pub(crate) blocks: Blocks<S>,
@@ -77,10 +77,42 @@ impl<S: BlockStore> Volume<S> {
         ensures store { IfOk result (λ v. (v.is_sound ≡ S.is_sound store) × (v.failures ≡ S.failures store) × (v.committed ≡ S.committed store) × (v.size ≡ S.size store) × (v.sizes ≡ stored_sizes dbd.now.types) × IsPlain v) }
         ensures refusal { IfErr result (λ e. IsGivenBack S.size S.contents S.is_sound S.failures S.committed store e) }
     {
+        Volume::load_keeping(alloc, store, dbd, LEAST_ASIDE)
+    }
+
+    /// The same, with so many blocks of the volume kept in memory beside block 0 and the one in hand, three at least and
+    /// no more than are of use; memory that is lacking beyond three only keeps fewer.
+    pub fn load_keeping(
+        alloc: Global,
+        store: S,
+        dbd: &Dbd,
+        kept: usize,
+    ) -> Result<Volume<S>, (S, Refused)>
+        requires { S.size store ≡ dbd.now.block_size }
+        ensures image { IfOk result (λ v. IsTrue (S.is_sound store) → (v.image ≡ S.contents store) × (v.stored ≡ S.contents store)) }
+        ensures store { IfOk result (λ v. (v.is_sound ≡ S.is_sound store) × (v.failures ≡ S.failures store) × (v.committed ≡ S.committed store) × (v.size ≡ S.size store) × (v.sizes ≡ stored_sizes dbd.now.types) × IsPlain v) }
+        ensures refusal { IfErr result (λ e. IsGivenBack S.size S.contents S.is_sound S.failures S.committed store e) }
+    {
+        let kept = kept.min(most_kept(&store));
+        Volume::load_with(alloc, store, dbd, kept)
+    }
+
+    /// The same, with room for so many blocks, three at least.
+    pub(crate) fn load_with(
+        alloc: Global,
+        store: S,
+        dbd: &Dbd,
+        kept: usize,
+    ) -> Result<Volume<S>, (S, Refused)>
+        requires { S.size store ≡ dbd.now.block_size }
+        ensures image { IfOk result (λ v. IsTrue (S.is_sound store) → (v.image ≡ S.contents store) × (v.stored ≡ S.contents store)) }
+        ensures store { IfOk result (λ v. (v.is_sound ≡ S.is_sound store) × (v.failures ≡ S.failures store) × (v.committed ≡ S.committed store) × (v.size ≡ S.size store) × (v.sizes ≡ stored_sizes dbd.now.types) × IsPlain v) }
+        ensures refusal { IfErr result (λ e. IsGivenBack S.size S.contents S.is_sound S.failures S.committed store e) }
+    {
         let Ok(sizes) = size_table(alloc, dbd) else {
             return Err((store, Refused::Memory));
         };
-        let mut blocks = match Blocks::new(alloc, store) {
+        let mut blocks = match Blocks::new(alloc, store, kept) {
             Ok(blocks) => blocks,
             Err(given) => return Err(given),
         };

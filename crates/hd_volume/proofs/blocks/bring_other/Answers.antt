@@ -1,7 +1,7 @@
 use Rattle.std.proofs.Common.{ℕ, ◌∷◌, ◌∙◌, arith}
 use Rattle.std.specs.List.{AllByRecursion}
 use Rattle.hd_volume.specs.Buffers.{IsBlockLong, HoldsNot, AreLater, IsInBytes}
-use Rattle.hd_volume.proofs.AsideLemmas.{IsBrought, all-turned, later-turned, put-turned, later-brought, put-brought}
+use Rattle.hd_volume.proofs.AsideLemmas.{IsBrought, all-turned, later-turned, put-turned, later-brought, put-brought, slots-turned}
 use Rattle.hd_volume.proofs.blocks.bring_other.Goals as goal
 
 pub returns-then-turn_to-clause-contents : goal.returns-then-turn_to-clause-contents
@@ -27,7 +27,7 @@ returns-clause-contents g c sound =
     let size : ℕ = g.S.BlockStore.size c.args.store.now in
     let len : AllByRecursion (IsBlockLong size) (c.turn_to.new.hand ∷ c.turn_to.new.aside) = all-turned (IsBlockLong size) c.turn_to.ensures.turned c.requires.len in
     let later : AreLater size (g.S.BlockStore.contents c.args.store.now) (c.turn_to.new.hand ∷ c.turn_to.new.aside) = later-turned c.turn_to.ensures.turned (c.requires.ready sound) in
-    let none : AllByRecursion (HoldsNot c.args.n) (c.turn_to.new.hand ∷ c.turn_to.new.aside) = c.turn_to.ensures.none c.if-turn_to.false in
+    let none : AllByRecursion (HoldsNot c.args.n) (c.turn_to.new.hand ∷ c.turn_to.new.aside) = c.turn_to.ensures.none c.if-turn_to.false (c.requires.slots sound) in
     let b : IsBrought size (g.S.BlockStore.contents c.args.store.now) (g.S.BlockStore.contents c.bring.new.store) c.turn_to.new.hand c.bring.new.buffer c.turn_to.new.aside =
     record {
       len = c.in_ok-bring.ensures.length sound;
@@ -43,7 +43,7 @@ returns-clause-ready g c sound =
     let size : ℕ = g.S.BlockStore.size c.args.store.now in
     let len : AllByRecursion (IsBlockLong size) (c.turn_to.new.hand ∷ c.turn_to.new.aside) = all-turned (IsBlockLong size) c.turn_to.ensures.turned c.requires.len in
     let later : AreLater size (g.S.BlockStore.contents c.args.store.now) (c.turn_to.new.hand ∷ c.turn_to.new.aside) = later-turned c.turn_to.ensures.turned (c.requires.ready sound) in
-    let none : AllByRecursion (HoldsNot c.args.n) (c.turn_to.new.hand ∷ c.turn_to.new.aside) = c.turn_to.ensures.none c.if-turn_to.false in
+    let none : AllByRecursion (HoldsNot c.args.n) (c.turn_to.new.hand ∷ c.turn_to.new.aside) = c.turn_to.ensures.none c.if-turn_to.false (c.requires.slots sound) in
     let b : IsBrought size (g.S.BlockStore.contents c.args.store.now) (g.S.BlockStore.contents c.bring.new.store) c.turn_to.new.hand c.bring.new.buffer c.turn_to.new.aside =
     record {
       len = c.in_ok-bring.ensures.length sound;
@@ -64,3 +64,9 @@ returns-clause-stands g c sound all = c.in_ok-bring.ensures.stands sound (all-tu
 
 pub returns-clause-len : goal.returns-clause-len
 returns-clause-len g c = (c.bring.ensures.len, (all-turned (IsBlockLong (g.S.BlockStore.size c.args.store.now)) c.turn_to.ensures.turned c.requires.len).1)
+
+pub returns-then-turn_to-clause-slots : goal.returns-then-turn_to-clause-slots
+returns-then-turn_to-clause-slots g c sound = rw (c.turn_to.ensures.found c.if-turn_to.true).1 (slots-turned c.turn_to.ensures.turned (c.requires.slots sound))
+
+pub returns-clause-slots : goal.returns-clause-slots
+returns-clause-slots g c sound = rw c.in_ok-bring.ensures.holds.1 (slots-turned c.turn_to.ensures.turned (c.requires.slots sound))

@@ -3,7 +3,7 @@ use Rattle.std.specs.List.{AllByRecursion}
 use Rattle.hd_bytes.specs.Blocks.{block_of}
 use Rattle.hd_volume.specs.Buffers.{IsBlockLong, HoldsNot, AreLater}
 use Rattle.hd_volume.proofs.BufferLemmas.{other-put_in}
-use Rattle.hd_volume.proofs.AsideLemmas.{IsBrought, all-turned, later-turned, put-turned, later-brought, put-brought, written-brought}
+use Rattle.hd_volume.proofs.AsideLemmas.{IsBrought, all-turned, later-turned, put-turned, later-brought, put-brought, written-brought, slots-turned}
 use Rattle.hd_volume.proofs.blocks.bring_zeros.Goals as goal
 
 pub returns-then-turn_to-clause-contents : goal.returns-then-turn_to-clause-contents
@@ -37,7 +37,7 @@ returns-clause-contents g c sound =
     let contents : List ℕ = g.S.BlockStore.contents c.args.store.now in
     let len : AllByRecursion (IsBlockLong size) (c.turn_to.new.hand ∷ c.turn_to.new.aside) = all-turned (IsBlockLong size) c.turn_to.ensures.turned c.requires.len in
     let later : AreLater size contents (c.turn_to.new.hand ∷ c.turn_to.new.aside) = later-turned c.turn_to.ensures.turned (c.requires.ready sound) in
-    let none : AllByRecursion (HoldsNot c.args.n) (c.turn_to.new.hand ∷ c.turn_to.new.aside) = c.turn_to.ensures.none c.if-turn_to.false in
+    let none : AllByRecursion (HoldsNot c.args.n) (c.turn_to.new.hand ∷ c.turn_to.new.aside) = c.turn_to.ensures.none c.if-turn_to.false (c.requires.slots sound) in
     let there = c.requires.there sound in
     let same : c.hold_zeros.new.buffer.bytes.items ≡ block_of size contents c.args.n =
     c.hold_zeros.ensures.bytes ∙ ap (λ (k : ℕ). replicate k 0) (ap vec_len c.write_back.ensures.bytes ∙ len.0) ∙ sym (c.requires.zeros sound) in
@@ -51,7 +51,7 @@ returns-clause-ready g c sound =
     let contents : List ℕ = g.S.BlockStore.contents c.args.store.now in
     let len : AllByRecursion (IsBlockLong size) (c.turn_to.new.hand ∷ c.turn_to.new.aside) = all-turned (IsBlockLong size) c.turn_to.ensures.turned c.requires.len in
     let later : AreLater size contents (c.turn_to.new.hand ∷ c.turn_to.new.aside) = later-turned c.turn_to.ensures.turned (c.requires.ready sound) in
-    let none : AllByRecursion (HoldsNot c.args.n) (c.turn_to.new.hand ∷ c.turn_to.new.aside) = c.turn_to.ensures.none c.if-turn_to.false in
+    let none : AllByRecursion (HoldsNot c.args.n) (c.turn_to.new.hand ∷ c.turn_to.new.aside) = c.turn_to.ensures.none c.if-turn_to.false (c.requires.slots sound) in
     let there = c.requires.there sound in
     let same : c.hold_zeros.new.buffer.bytes.items ≡ block_of size contents c.args.n =
     c.hold_zeros.ensures.bytes ∙ ap (λ (k : ℕ). replicate k 0) (ap vec_len c.write_back.ensures.bytes ∙ len.0) ∙ sym (c.requires.zeros sound) in
@@ -71,3 +71,9 @@ returns-clause-first g c sound =
           ap (λ (t : List ℕ). block_of size t 0) (c.in_ok-write_back.ensures.contents sound)
           ∙ other-put_in size contents c.turn_to.new.hand 0 len.0 later.each.0 there (λ holds e. later.later.0 holds (sym e));
     }
+
+pub returns-then-turn_to-clause-slots : goal.returns-then-turn_to-clause-slots
+returns-then-turn_to-clause-slots g c sound = rw (c.turn_to.ensures.found c.if-turn_to.true).1 (slots-turned c.turn_to.ensures.turned (c.requires.slots sound))
+
+pub returns-clause-slots : goal.returns-clause-slots
+returns-clause-slots g c sound = rw c.hold_zeros.ensures.number (slots-turned c.turn_to.ensures.turned (c.requires.slots sound))

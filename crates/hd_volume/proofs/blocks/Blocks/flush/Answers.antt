@@ -3,7 +3,7 @@ use Rattle.std.specs.List.{AllByRecursion, AllZip}
 use Rattle.std.specs.Vec.{with_items}
 use Rattle.hd_volume.specs.declared.buffer.Buffer.{Buffer}
 use Rattle.hd_volume.specs.Buffers.{Buffered, AreLater, IsBlockLong, IsWrittenBack, image_of, put_all}
-use Rattle.hd_volume.proofs.AsideLemmas.{stored-buffers, buffers-of, refilled-all, IsFlushed, flushed-stored, flushed-others, flushed-image}
+use Rattle.hd_volume.proofs.AsideLemmas.{stored-buffers, buffers-of, refilled-all, slots-written, IsFlushed, flushed-stored, flushed-others, flushed-image}
 use Rattle.hd_volume.proofs.BufferLemmas.{hand-written}
 use Rattle.hd_volume.proofs.blocks.Blocks.flush.Goals as goal
 
@@ -59,6 +59,11 @@ invariant_of-self-2 g c =
             ready = rw same-2 at (c.in_ok-write_first.ensures.ready sound-2);
           } in
           flushed-others (stored-buffers c.self.invariant before) c.self.invariant.aside_len (c.self.invariant.others before) all;
+      slots = λ sound.
+          let sound-2 : IsTrue (g.S.BlockStore.is_sound c.write_back.new.store) = rw (← c.in_ok-write_first.ensures.sound) sound in
+          let sound-1 : IsTrue (g.S.BlockStore.is_sound c.write_all.new.store) = rw (← c.in_ok-write_back.ensures.sound) sound-2 in
+          let before : IsTrue (g.S.BlockStore.is_sound c.self.inside.store) = rw (← c.in_ok-write_all.ensures.sound) sound-1 in
+          rw c.write_back.ensures.number (slots-written w (c.self.invariant.slots before));
     }
 
 pub returns-clause-image : goal.returns-clause-image

@@ -60,7 +60,7 @@ invariant_of-self-2 g c =
     grown-kept c.self.invariant c.grow.ensures.size c.in_ok-grow.ensures.sound (subst P (sym c.self.view_is) c.requires.there) 1 c.in_ok-grow.ensures.value in
     let is : (with_items c.self.inside.aside c.bring_zeros.new.aside).items ≡ c.bring_zeros.new.aside = take_at c.bring_zeros.new.aside _ _ (search rules) in
     rw is
-    (brought-kept k c.bring_zeros.ensures.size c.in_ok-bring_zeros.ensures.sound c.bring_zeros.ensures.len c.in_ok-bring_zeros.ensures.length c.in_ok-bring_zeros.ensures.first c.in_ok-bring_zeros.ensures.ready)
+    (brought-kept k c.bring_zeros.ensures.size c.in_ok-bring_zeros.ensures.sound c.bring_zeros.ensures.len c.in_ok-bring_zeros.ensures.length c.in_ok-bring_zeros.ensures.first c.in_ok-bring_zeros.ensures.ready c.in_ok-bring_zeros.ensures.slots)
 
 pub returns-clause-image : goal.returns-clause-image
 returns-clause-image g c =

@@ -1,6 +1,6 @@
 use Rattle.std.proofs.Common.{rules, ◌≡◌, ℕ, List, ◌∷◌}
 use Rattle.hd_volume.specs.Buffers.{AreLater, put_all}
-use Rattle.hd_volume.proofs.AsideLemmas.{empty-later, put-empty}
+use Rattle.hd_volume.proofs.AsideLemmas.{empty-later, empty-slots, put-empty}
 use Rattle.hd_volume.proofs.blocks.Blocks.new.Goals as goal
 
 pub invariant_of-result : goal.invariant_of-result
@@ -18,6 +18,7 @@ invariant_of-result g c =
       head_number = search rules;
       ready = search rules;
       others = λ _. later;
+      slots = λ _. empty-slots c.in-Ok-empty_buffer.hand.number c.in-Ok-empty_buffers.aside.items c.in-Ok-empty_buffers.ensures.empty;
     }
 
 pub returns-clause-image : goal.returns-clause-image
