@@ -23,5 +23,7 @@ pub mod Taken
 pub mod Unlinks
 pub mod UnlinkSpan
 pub mod TwinsBelow
+pub mod KeyNumbers
+pub mod BlockTwins
 pub mod SegmentsSet
 pub mod RowsSet

@@ -28,18 +28,18 @@ use Rattle.hd_links.specs.Placed.{Placed}
 use Rattle.hd_links.specs.Steps.{rows_of, address_at, RowsHaveAddresses, StepsAreRows}
 use Rattle.hd_forest.specs.declared.twins.TwinPlaces.{TwinPlaces}
 use Rattle.hd_forest.specs.Twins.{twin_after, is_key_below, AreTwinsBelow, IsTwinFrom}
-use Rattle.hd_forest.specs.TwinPlaces.{places_of, twin_places, passed}
+use Rattle.hd_forest.specs.TwinPlaces.{places_of, twin_places}
 
 -- ---- one segment
 
--- a part of some of the bytes
-part_in : (s : List ℕ) (place len start n : ℕ) → (start - 1) + n ≤ len → part_of (bytes_at s place len) start n ≡ bytes_at s (place + (start - 1)) n
-part_in s place len start n within =
-    let e : len ≡ (start - 1) + (len - (start - 1)) = omega arith in
-    ap (λ (l : ℕ). take n (drop (start - 1) (take l (drop place s)))) e
-    ∙ ap (λ (xs : List ℕ). take n xs) (drop-take (start - 1) (len - (start - 1)) (drop place s))
-    ∙ take-take n (len - (start - 1)) (drop (start - 1) (drop place s)) (omega arith)
-    ∙ ap (λ (xs : List ℕ). take n xs) (drop-drop (start - 1) place s)
+-- some of the bytes that stand at a place
+pub range_in : (s : List ℕ) (place len start n : ℕ) → start + n ≤ len → bytes_at (bytes_at s place len) start n ≡ bytes_at s (place + start) n
+range_in s place len start n within =
+    let e : len ≡ start + (len - start) = omega arith in
+    ap (λ (l : ℕ). take n (drop start (take l (drop place s)))) e
+    ∙ ap (λ (xs : List ℕ). take n xs) (drop-take start (len - start) (drop place s))
+    ∙ take-take n (len - start) (drop start (drop place s)) (omega arith)
+    ∙ ap (λ (xs : List ℕ). take n xs) (drop-drop start place s)
 
 -- a key lies inside the shortest of its segments
 key_fits : (size : ℕ) (frspc : FreeSpace) (types : List SegmentType) (c : ℕ) (t : SegmentType) (k : Key) → IsTrue (well_formed size frspc types) → type_of types c ≡ Some t
@@ -57,6 +57,7 @@ pub record IsRead (types : List SegmentType) (c : ℕ) (places : TwinPlaces) (ke
   pub has_key : bytes_at s places.key places.length ≡ key_of types (record { code = c; bytes = bytes_of types c s })
   pub forward : number_at 4 s places.forward ≡ pointer_of types c TwinForward s
   pub long : places.forward + 4 ≤ length s
+  pub key_long : places.key + places.length ≤ length s
 
 module _ (size : ℕ) (frspc : FreeSpace) (types : List SegmentType) (fit : IsTrue (well_formed size frspc types)) (c : ℕ) (key s : List ℕ)
     (whole : IsWhole types c s) (least : (t : SegmentType) → type_of types c ≡ Some t → least_length t ≤ length_of types c s) where
@@ -68,12 +69,13 @@ module _ (size : ℕ) (frspc : FreeSpace) (types : List SegmentType) (fit : IsTr
       record {
         key_is = sym (ap (λ (o : Option SegmentType). option_map_or (λ t. option_map_or (λ k. is_lt (slice_cmp nat_cmp (part_of (bytes_of types c s) k.start k.length) key)) t.key false) o false) is
             ∙ ap (λ (o : Option Key). option_map_or (λ k. is_lt (slice_cmp nat_cmp (part_of (bytes_of types c s) k.start k.length) key)) o false) has
-            ∙ ap (λ (xs : List ℕ). is_lt (slice_cmp nat_cmp xs key)) (part_in s (prefix_length types c) (length_of types c s) k.start k.length inside));
+            ∙ ap (λ (xs : List ℕ). is_lt (slice_cmp nat_cmp xs key)) (range_in s (prefix_length types c) (length_of types c s) (k.start - 1) k.length inside));
         has_key = sym (ap (λ (o : Option SegmentType). option_map_or (λ t. option_map_or (λ k. part_of (bytes_of types c s) k.start k.length) t.key []) o []) is
             ∙ ap (λ (o : Option Key). option_map_or (λ k. part_of (bytes_of types c s) k.start k.length) o []) has
-            ∙ part_in s (prefix_length types c) (length_of types c s) k.start k.length inside);
+            ∙ range_in s (prefix_length types c) (length_of types c s) (k.start - 1) k.length inside);
         forward = sym (ap (λ (o : Option SegmentType). option_map_or (λ place. number_at 4 s place) (option_map (λ _. 2) o) 0) is);
         long = omega arith;
+        key_long = omega arith;
       }
     where
       sizes : (b : Bool) → 6 ≤ cond b 10 6
@@ -206,20 +208,3 @@ module _ (types : List SegmentType) (m : Links) (f : Forest Placed) (A : RowsHav
   -- one that is not below is the first
   pub passed_to : (turns twin : ℕ) → HasPassed types m f key p turns twin → is_key_below types key (segment_at m twin) ≡ false → IsTwinFrom types m key p twin
   passed_to turns twin H not_below = record { after = turns; is = H.is; below = H.below; there = H.there; ends = λ some. not_below }
-
--- ---- one step
-
--- a twin was passed just where its key is below, to the next
-pub step_on : (types : List SegmentType) (m : Links) (key : List ℕ) (a next : ℕ) → Some next ≡ passed types m key a → (is_key_below types key (segment_at m a) ≡ true) × (next ≡ m.forward a)
-step_on types m key a next is = by (is_key_below types key (segment_at m a)) is
-  where
-    by : (b : Bool) → Some next ≡ cond b (Some (m.forward a)) None → (b ≡ true) × (next ≡ m.forward a)
-    by true h = (refl, (let same : next ≡ m.forward a = cc in same))
-    by false h = cc
-
-pub step_none : (types : List SegmentType) (m : Links) (key : List ℕ) (a : ℕ) → None ≡ passed types m key a → is_key_below types key (segment_at m a) ≡ false
-step_none types m key a is = by (is_key_below types key (segment_at m a)) is
-  where
-    by : (b : Bool) → None ≡ cond b (Some (m.forward a)) None → b ≡ false
-    by true h = cc
-    by false h = refl

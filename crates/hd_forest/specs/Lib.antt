@@ -2,6 +2,7 @@ pub mod Walks
 pub mod Rows
 pub mod Twins
 pub mod TwinPlaces
+pub mod BlockTwins
 pub mod Children
 pub mod Updates
 pub mod Sets

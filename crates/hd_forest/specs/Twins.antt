@@ -48,3 +48,8 @@ pub record IsTwinFrom (types : List SegmentType) (m : Links) (key : List ℕ) (p
   pub below : AreTwinsBelow types m key after p
   pub there : 0 < r → IsSegment m r
   pub ends : 0 < r → is_key_below types key (segment_at m r) ≡ false
+
+-- Of the twins from p on, before is the last whose key is below a key, 0 for none, and from, 0 for none, stands behind it, or is p.
+pub record IsLastBelow (types : List SegmentType) (m : Links) (key : List ℕ) (p before from : ℕ) : Type 0 where
+  pub behind : IsBehind m p before from
+  pub below : 0 < before → is_key_below types key (segment_at m before) ≡ true

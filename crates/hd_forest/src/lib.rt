@@ -1,6 +1,7 @@
 //! The linked segments of a volume as one forest: the walk from row to row, and the calls that link, unlink and replace.
 #![tactic(auto)]
 
+mod block_twins;
 mod change;
 mod children;
 mod law;
@@ -23,6 +24,8 @@ pub use read::{
 };
 pub use replacements::replace;
 pub use row::bytes_in;
-pub use twins::{TwinPlaces, forward_in, key_at, twin_from, twin_places};
+pub use twins::{
+    TwinPlaces, TwinsAround, forward_in, key_at, twin_from, twin_places, twins_around,
+};
 pub use unlink::unlink_span;
-pub use walk::{Ahead, ahead_of, go_on, next_after_span, next_row};
+pub use walk::{Ahead, ahead_of, go_on, next_after_span, next_row, step_to_twin};

@@ -1,6 +1,5 @@
-ghost use Rattle.std.specs.Prelude.{◌≡◌, ◌+◌, ◌≤◌, length, IsTrue, Some, IfOk};
-ghost use Rattle.std.specs.Ordering.{nat_cmp, is_lt};
-ghost use Rattle.std.specs.Cmp.Lexicographic.{slice_cmp};
+ghost use Rattle.std.specs.Prelude.{◌≡◌, ◌+◌, ◌/◌, ◌≤◌, length, IsTrue, Some, IfSome, IfOk};
+ghost use Rattle.hd_bytes.specs.Blocks.{HasBlock};
 ghost use Rattle.hd_bytes.specs.Ranges.{bytes_at};
 ghost use Rattle.hd_bytes.specs.Numbers.{number_at};
 ghost use Rattle.hd_dbd.specs.Refusals.{OnlyDevice};
@@ -8,12 +7,14 @@ ghost use Rattle.hd_volume.specs.Calls.{IsRead};
 ghost use Rattle.hd_links.specs.Links.{IsSegment};
 ghost use Rattle.hd_image.specs.Records.{links_of, IsVolumeOf};
 ghost use Rattle.hd_forest.specs.Walks.{HasForest};
-ghost use Rattle.hd_forest.specs.Twins.{IsTwinFrom};
-ghost use Rattle.hd_forest.specs.TwinPlaces.{twin_places, behind_below, passed};
+ghost use Rattle.hd_forest.specs.Twins.{IsTwinFrom, IsLastBelow};
+ghost use Rattle.hd_forest.specs.TwinPlaces.{twin_places};
+ghost use Rattle.hd_forest.specs.BlockTwins.{IsNumberOf, IsWalkFrom};
 
+use crate::block_twins::{Walk, number_of_key, pass_in};
 use crate::read::code_at;
 use hd_bytes::read_u32;
-use hd_dbd::{Dbd, Refused, compare_keys};
+use hd_dbd::{Dbd, Refused};
 use hd_prefix::{Layout, Pointer};
 use hd_stores::BlockStore;
 use hd_volume::Volume;
@@ -21,9 +22,9 @@ use hd_volume::Volume;
 /// Where the stored segments of a type that has a key have twin forward and the key, and the key's length.
 #[derive(Clone, Copy, Debug)]
 pub struct TwinPlaces {
-    forward: u16,
-    key: usize,
-    length: usize,
+    pub(crate) forward: u16,
+    pub(crate) key: usize,
+    pub(crate) length: usize,
 }
 
 /// Where the segments of the type of a code have twin forward and the key; `None` where it has no key.
@@ -50,13 +51,6 @@ pub fn key_at(places: TwinPlaces, segment: &[u8]) -> &[u8]
     &segment[start..start + count]
 }
 
-/// Whether the key of a lent segment is below another.
-fn is_below(places: TwinPlaces, segment: &[u8], key: &[u8]) -> bool
-    ensures { result ≡ is_lt (slice_cmp nat_cmp (bytes_at segment.now places.key places.length) key.now) }
-{
-    compare_keys(key_at(places, segment), key).is_lt()
-}
-
 /// The twin forward of a lent segment.
 pub fn forward_in(places: TwinPlaces, segment: &[u8]) -> u32
     ensures { places.forward + 4 ≤ length segment.now → result ≡ number_at 4 segment.now places.forward }
@@ -68,69 +62,72 @@ pub fn forward_in(places: TwinPlaces, segment: &[u8]) -> u32
     read_u32(segment, place)
 }
 
-/// The twin forward of a lent segment whose key is below another; `None` where it is not.
-fn behind_below(places: TwinPlaces, segment: &[u8], key: &[u8]) -> Option<u32>
-    ensures { places.forward + 4 ≤ length segment.now → result ≡ behind_below places key.now segment.now }
-{
-    if is_below(places, segment, key) {
-        Some(forward_in(places, segment))
-    } else {
-        None
-    }
+/// The twins around a key: the last whose key is below, and the first whose key is not, 0 for none.
+#[derive(Clone, Copy, Debug)]
+pub struct TwinsAround {
+    pub before: u32,
+    pub from: u32,
 }
 
-/// The twin behind the one at an address, where the key of this is below another; `None` where it is not. One access.
-fn pass<S: BlockStore>(
+/// Passes over the twins of one block from the one at an address on, behind another, as far as their keys are below a key. One access.
+fn pass_block<S: BlockStore>(
     volume: &mut Volume<S>,
-    dbd: &Dbd,
     places: TwinPlaces,
+    behind: u32,
     address: u32,
     key: &[u8],
-) -> Result<Option<u32>, Refused>
-    requires of { IsTrue volume.old.is_sound → IsVolumeOf dbd.now volume.old }
-    requires there { IsTrue volume.old.is_sound → IsSegment (links_of dbd.now.types volume.old) address }
-    requires places { IsTrue volume.old.is_sound → twin_places dbd.now.types ((links_of dbd.now.types volume.old).code address) ≡ Some places }
+    number: Option<u64>,
+) -> Result<Walk, Refused>
+    requires there { IsTrue volume.old.is_sound → HasBlock volume.old.size volume.old.image (address / volume.old.size) }
+    requires number { IfSome number (λ n. IsNumberOf places.length key.now n) }
     ensures read { IsRead volume.old result volume.new }
-    ensures value { IfOk result (λ r. IsTrue volume.old.is_sound → r ≡ passed dbd.now.types (links_of dbd.now.types volume.old) key.now address) }
+    ensures value { IfOk result (λ r. IsTrue volume.old.is_sound → IsWalkFrom volume.old places key.now behind address r) }
     ensures refusal { OnlyDevice result }
 {
-    let segment = volume.segment_at(address)?;
-    Ok(behind_below(places, segment, key))
+    let size = volume.block_size() as u32;
+    let n = address / size;
+    let block = volume.block(n)?;
+    Ok(pass_in(places, block, n * size, behind, address, key, number))
 }
 
-/// Of the twins from one at an address on, of a type whose segments have twin forward and the key at these places, the first whose
-/// key is not below another, 0 where all are below.
-fn first_from<S: BlockStore>(
+/// Of the twins from one at an address on, of a type whose segments have twin forward and the key at these places, those around a key.
+/// One access for each run of twins that lie in one block, up to the first whose key is not below.
+pub fn twins_around<S: BlockStore>(
     volume: &mut Volume<S>,
     dbd: &Dbd,
     places: TwinPlaces,
     address: u32,
     key: &[u8],
-) -> Result<u32, Refused>
+) -> Result<TwinsAround, Refused>
     requires of { IsTrue volume.old.is_sound → IsVolumeOf dbd.now volume.old }
     requires holds { IsTrue volume.old.is_sound → HasForest dbd.now volume.old }
     requires there { IsTrue volume.old.is_sound → IsSegment (links_of dbd.now.types volume.old) address }
     requires places { IsTrue volume.old.is_sound → twin_places dbd.now.types ((links_of dbd.now.types volume.old).code address) ≡ Some places }
     ensures read { IsRead volume.old result volume.new }
-    ensures value { IfOk result (λ r. IsTrue volume.old.is_sound → IsTwinFrom dbd.now.types (links_of dbd.now.types volume.old) key.now address r) }
+    ensures from { IfOk result (λ r. IsTrue volume.old.is_sound → IsTwinFrom dbd.now.types (links_of dbd.now.types volume.old) key.now address r.from) }
+    ensures before { IfOk result (λ r. IsTrue volume.old.is_sound → IsLastBelow dbd.now.types (links_of dbd.now.types volume.old) key.now address r.before r.from) }
     ensures refusal { OnlyDevice result }
 {
+    let number = number_of_key(places, key);
     let most = volume.length();
+    let mut before = 0;
     let mut twin = address;
     for count in 0..most {
         if twin == 0 {
-            return Ok(0);
+            return Ok(TwinsAround { before, from: 0 });
         }
-        let Some(next) = pass(volume, dbd, places, twin, key)? else {
-            return Ok(twin);
-        };
-        twin = next;
+        let walk = pass_block(volume, places, before, twin, key, number)?;
+        before = walk.before;
+        twin = walk.twin;
+        if walk.is_found {
+            return Ok(TwinsAround { before, from: twin });
+        }
     }
-    Ok(0)
+    Ok(TwinsAround { before, from: 0 })
 }
 
 /// Of a segment and its later twins the first whose key is not below a key, 0 where all are below. Where the type has no key none is
-/// below, and it is the segment itself. The twins up to that one are read, each once, and the segment once more.
+/// below, and it is the segment itself. The blocks of the twins up to that one are read, and the segment once more.
 pub fn twin_from<S: BlockStore>(
     volume: &mut Volume<S>,
     dbd: &Dbd,
@@ -148,5 +145,6 @@ pub fn twin_from<S: BlockStore>(
     let Some(places) = twin_places(dbd, code) else {
         return Ok(address);
     };
-    first_from(volume, dbd, places, address, key)
+    let around = twins_around(volume, dbd, places, address, key)?;
+    Ok(around.from)
 }

@@ -1,4 +1,4 @@
-ghost use Rattle.std.specs.Prelude.{◌≡◌, ◌<◌, true, IsTrue, IsFalse, IfOk, IfErr, OnOk};
+ghost use Rattle.std.specs.Prelude.{◌≡◌, ◌<◌, true, IsTrue, IsFalse, IfOk, IfErr, IfNone, IfSome, OnOk};
 ghost use Rattle.hd_dbd.specs.Refusals.{OnlyDevice};
 ghost use Rattle.hd_volume.specs.Calls.{IsRead};
 ghost use Rattle.hd_links.specs.Links.{IsSegment};
@@ -71,6 +71,35 @@ pub fn go_on<S: BlockStore>(
         return Ok(());
     }
     step_behind(volume, dbd, path, ahead.code)
+}
+
+/// Goes from the last row of a path, where it has no row below it, to its next twin, and says the code of their type; `None` where it has rows below it or
+/// no next twin, and the path stays. One segment is read.
+pub fn step_to_twin<S: BlockStore>(
+    volume: &mut Volume<S>,
+    dbd: &Dbd,
+    path: &mut Path,
+) -> Result<Option<u8>, Refused>
+    requires of { IsTrue volume.old.is_sound → IsVolumeOf dbd.now volume.old }
+    requires holds { IsTrue volume.old.is_sound → HasForest dbd.now volume.old }
+    requires there { IsTrue volume.old.is_sound → AreSegments (links_of dbd.now.types volume.old) path.old }
+    ensures read { IsRead volume.old result volume.new }
+    ensures next { IfOk result (λ o. IfSome o (λ code. IsTrue volume.old.is_sound → path.new ≡ next_on dbd.now.types (links_of dbd.now.types volume.old) path.old)) }
+    ensures code { IfOk result (λ o. IfSome o (λ code. IsTrue volume.old.is_sound → code ≡ (links_of dbd.now.types volume.old).code (tip path.new))) }
+    ensures stays { IfOk result (λ o. IfNone o (path.new ≡ path.old)) }
+    ensures kept { IfErr result (λ _. path.new ≡ path.old) }
+    ensures refusal { OnlyDevice result }
+{
+    let last = tip_of(path);
+    if last == 0 {
+        return Ok(None);
+    }
+    let ahead = look_ahead(volume, dbd, last)?;
+    if ahead.below != 0 || ahead.twin == 0 {
+        return Ok(None);
+    }
+    path.step(dbd.level(ahead.code), ahead.twin);
+    Ok(Some(ahead.code))
 }
 
 /// Goes from the last row of a path, which names this ahead of it, to the first row below it or else to its next twin, and says

@@ -1,0 +1,140 @@
+//! Twins of one block, passed over by their keys.
+ghost use Rattle.std.specs.Prelude.{◌≡◌, ◌+◌, ◌-◌, ◌<◌, ◌≤◌, ◌↔◌, true, length, take, IfSome};
+ghost use Rattle.std.specs.Int.{from_be_bytes, w64};
+ghost use Rattle.std.specs.Ordering.{nat_cmp, is_lt};
+ghost use Rattle.std.specs.Cmp.Lexicographic.{slice_cmp};
+ghost use Rattle.hd_bytes.specs.Ranges.{bytes_at};
+ghost use Rattle.hd_forest.specs.BlockTwins.{IsNumberOf, HasTwin, IsWalk};
+
+use crate::twins::TwinPlaces;
+use hd_bytes::{read_u32, write_bytes};
+use hd_dbd::compare_keys;
+
+/// What a walk along the twins of a block came to: the last that was passed over, the one behind it, 0 for none, and whether the key of this
+/// was found not to be below.
+#[derive(Clone, Copy, Debug)]
+pub struct Walk {
+    pub before: u32,
+    pub twin: u32,
+    pub is_found: bool,
+}
+
+/// The number that the first eight bytes make, the highest first.
+fn number_of_eight(bytes: &[u8]) -> u64
+    requires { 8 ≤ length bytes.now }
+    ensures { result ≡ from_be_bytes w64 (take 8 bytes.now) }
+{
+    u64::from_be_bytes([
+        bytes[0], bytes[1], bytes[2], bytes[3], bytes[4], bytes[5], bytes[6], bytes[7],
+    ])
+}
+
+/// The number that the eight bytes at a place make.
+fn number_at(block: &[u8], place: usize) -> u64
+    requires { place + 8 ≤ length block.now }
+    ensures { result ≡ from_be_bytes w64 (bytes_at block.now place 8) }
+{
+    number_of_eight(&block[place..])
+}
+
+/// The number of a key with zeros behind it; `None` where it has more than eight bytes, or is not as long as the twins' keys.
+pub fn number_of_key(places: TwinPlaces, key: &[u8]) -> Option<u64>
+    ensures { IfSome result (λ number. IsNumberOf places.length key.now number) }
+{
+    if key.len() != places.length || key.len() > 8 {
+        return None;
+    }
+    let mut eight = [0; 8];
+    write_bytes(&mut eight, 0, key);
+    Some(number_of_eight(&eight))
+}
+
+/// Whether the key at a place is below another: before an end as numbers, since eight bytes stand there.
+fn is_below(block: &[u8], place: usize, count: usize, key: &[u8], end: usize, number: u64) -> bool
+    requires within { place + count ≤ length block.now }
+    requires end { end ≤ length block.now - 7 }
+    requires number { 0 < end → IsNumberOf count key.now number }
+    ensures { result ≡ is_lt (slice_cmp nat_cmp (bytes_at block.now place count) key.now) }
+{
+    if place < end {
+        return number_at(block, place) < number;
+    }
+    compare_keys(&block[place..place + count], key).is_lt()
+}
+
+/// Whether a block has the twin at an address, with its twin forward and its key.
+fn has_twin(places: TwinPlaces, block: &[u8], start: u32, twin: u32) -> bool
+    ensures { (result ≡ true) ↔ HasTwin places block.now start twin }
+{
+    let own = places.key.saturating_add(places.length);
+    let end = own.max(places.forward as usize + 4);
+    end <= block.len() && start <= twin && (twin - start) as usize <= block.len() - end
+}
+
+/// Passes over the twins of a block, whose first byte has an address, from one on, behind another, as far as their keys are below a key: of
+/// those before an end as numbers.
+fn pass_on(
+    places: TwinPlaces,
+    block: &[u8],
+    start: u32,
+    behind: u32,
+    address: u32,
+    key: &[u8],
+    end: usize,
+    number: u64,
+) -> Walk
+    requires end { end ≤ length block.now - 7 }
+    requires number { 0 < end → IsNumberOf places.length key.now number }
+    ensures { IsWalk places block.now start key.now behind address result }
+{
+    let most = block.len();
+    let mut before = behind;
+    let mut twin = address;
+    for count in 0..most {
+        if !has_twin(places, block, start, twin) {
+            return Walk {
+                before,
+                twin,
+                is_found: false,
+            };
+        }
+        let at = (twin - start) as usize;
+        if !is_below(block, at + places.key, places.length, key, end, number) {
+            return Walk {
+                before,
+                twin,
+                is_found: true,
+            };
+        }
+        before = twin;
+        twin = read_u32(block, at + places.forward as usize);
+    }
+    Walk {
+        before,
+        twin,
+        is_found: false,
+    }
+}
+
+/// Passes over the twins of a block, whose first byte has an address, from one on, behind another, as far as their keys are below a key, by
+/// the key's number where it has one.
+pub fn pass_in(
+    places: TwinPlaces,
+    block: &[u8],
+    start: u32,
+    behind: u32,
+    address: u32,
+    key: &[u8],
+    number: Option<u64>,
+) -> Walk
+    requires { IfSome number (λ n. IsNumberOf places.length key.now n) }
+    ensures { IsWalk places block.now start key.now behind address result }
+{
+    match number {
+        Some(number) => {
+            let end = block.len().saturating_sub(7);
+            pass_on(places, block, start, behind, address, key, end, number)
+        }
+        None => pass_on(places, block, start, behind, address, key, 0, 0),
+    }
+}
