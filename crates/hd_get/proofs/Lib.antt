@@ -21,3 +21,4 @@ pub mod TakenLevels
 pub mod Seeking
 pub mod NamedRows
 pub mod StandingPaths
+pub mod NextTwins

@@ -1,5 +1,5 @@
 -- Paths to where a get begins.
-use Rattle.std.proofs.Common.{◌≡◌, ℕ, zero, suc, ◌+◌, ◌<◌, ◌≤◌, List, [], length, Option, Some, None, refl, sym, ap, subst, ◌∙◌, arith}
+use Rattle.std.proofs.Common.{◌≡◌, ℕ, zero, suc, ◌+◌, ◌<◌, ◌≤◌, List, [], length, Option, Some, None, refl, sym, ap, ap₂, subst, ◌∙◌, arith}
 use Rattle.std.specs.Prelude.{max, cond, ◌||◌, ◌==◌, is_some, option_map}
 use Rattle.std.specs.Option.{option_map_or}
 use Rattle.std.specs.List.{list_any}
@@ -93,3 +93,7 @@ module _ (types : List SegmentType) (f : Forest Placed) (k : Kept) (q : Position
       mapped : (o : Option ℕ) → is_some (option_map (λ j. address_at f j) o) ≡ is_some o
       mapped None = refl
       mapped (Some j) = refl
+
+-- what was read on the kept path at the level of parentage
+pub read_there : (k : Kept) (path : List ℕ) (level : ℕ) (o : Option ℕ) → path ≡ k.path → level ≡ k.parent → o ≡ row_on path level → row_on k.path k.parent ≡ o
+read_there k path level o e l is = sym (is ∙ ap₂ (λ (xs : List ℕ) (n : ℕ). row_on xs n) e l)

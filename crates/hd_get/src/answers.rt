@@ -1,7 +1,9 @@
-ghost use Rattle.std.specs.Prelude.{◌≡◌, [], None, Some, cond, length, is_none, option_map, IfOk, IfErr};
+ghost use Rattle.std.specs.Prelude.{◌≡◌, [], None, Some, IsTrue, cond, length, is_none, option_map, IfOk, IfErr, IfNone, IfSome};
 ghost use Rattle.std.specs.List.{list_all};
 ghost use Rattle.hd_dbd.specs.Refusals.{OnlyDevice};
 ghost use Rattle.hd_volume.specs.Calls.{IsRead};
+ghost use Rattle.hd_image.specs.Records.{links_of};
+ghost use Rattle.hd_forest.specs.Walks.{tip};
 ghost use Rattle.hd_calls.specs.Gets.{crossing};
 ghost use Rattle.hd_position.specs.LastTypes.{place_of};
 ghost use Rattle.hd_calls.specs.Admits.{Descend};
@@ -10,12 +12,13 @@ ghost use Rattle.hd_get.specs.Found.{IsSought, IsMissed, goes_back, status_betwe
 
 use crate::call::Get;
 use crate::found_row::taken;
+use crate::next_twin::seek_next_twin;
 use crate::outcome::Outcome;
 use crate::searches::seek;
 use hd_calls::GetKind;
 use hd_dbd::{Dbd, Refused, Status};
-use hd_forest::Path;
-use hd_position::{LastType, Levels, Position, stand};
+use hd_forest::{Path, code_at, tip_of};
+use hd_position::{LastType, Levels, Position, stand_on};
 use hd_ssa::ResolvedSsa;
 use hd_stores::BlockStore;
 use hd_volume::Volume;
@@ -61,7 +64,28 @@ fn held_by(dbd: &Dbd, call: &Get<'_>, path: &Path) -> Levels
     }
 }
 
-/// Leaves a PCB on the row that a get has found. One access at most.
+/// Leaves a PCB on the row of a type that a get has found. Nothing is read.
+fn leave_on<S: BlockStore>(
+    volume: &Volume<S>,
+    dbd: &Dbd,
+    call: &Get<'_>,
+    position: &mut Position,
+    path: Path,
+    code: u8,
+) -> Outcome
+    requires descend { Descend dbd.now.types None call.now.ssas }
+    requires there { HasPosition dbd.now volume.now position.old }
+    requires sought { IsSought dbd.now volume.now call.now position.old (Some path) }
+    requires code { IsTrue volume.now.is_sound → code ≡ (links_of dbd.now.types volume.now).code (tip path) }
+    ensures value { IsGot dbd.now volume.now call.now position.old result position.new }
+{
+    let last = position.last();
+    let held = held_by(dbd, call, &path);
+    stand_on(volume, dbd, position, path, code, call.kind, held);
+    Outcome::Found(status_between(call, last, position.last()))
+}
+
+/// Leaves a PCB on the row that a get has found. One access.
 fn found<S: BlockStore>(
     volume: &mut Volume<S>,
     dbd: &Dbd,
@@ -77,10 +101,30 @@ fn found<S: BlockStore>(
     ensures kept { IfErr result (λ _. position.new ≡ position.old) }
     ensures refusal { OnlyDevice result }
 {
-    let last = position.last();
-    let held = held_by(dbd, call, &path);
-    stand(volume, dbd, position, path, call.kind, held)?;
-    Ok(Outcome::Found(status_between(call, last, position.last())))
+    let code = code_at(volume, dbd, tip_of(&path))?;
+    Ok(leave_on(volume, dbd, call, position, path, code))
+}
+
+/// A get without arguments that goes on to the next twin of its PCB's row; `None` where it may go elsewhere, and the position stays.
+fn get_next_twin<S: BlockStore>(
+    volume: &mut Volume<S>,
+    dbd: &Dbd,
+    call: &Get<'_>,
+    position: &mut Position,
+) -> Result<Option<Outcome>, Refused>
+    requires bare { call.now.ssas ≡ [] }
+    requires descend { Descend dbd.now.types None call.now.ssas }
+    requires there { HasPosition dbd.now volume.old position.old }
+    ensures read { IsRead volume.old result volume.new }
+    ensures value { IfOk result (λ o. IfSome o (λ outcome. IsGot dbd.now volume.old call.now position.old outcome position.new)) }
+    ensures stays { IfOk result (λ o. IfNone o (position.new ≡ position.old)) }
+    ensures kept { IfErr result (λ _. position.new ≡ position.old) }
+    ensures refusal { OnlyDevice result }
+{
+    let Some((path, code)) = seek_next_twin(volume, dbd, call, position)? else {
+        return Ok(None);
+    };
+    Ok(Some(leave_on(volume, dbd, call, position, path, code)))
 }
 
 /// Whether no argument is qualified.
@@ -113,6 +157,26 @@ fn missing(call: &Get<'_>, position: &mut Position) -> Outcome
     Outcome::Missing(Status::GE)
 }
 
+/// A get by a search from where it begins.
+fn get_by_search<S: BlockStore>(
+    volume: &mut Volume<S>,
+    dbd: &Dbd,
+    call: &Get<'_>,
+    position: &mut Position,
+) -> Result<Outcome, Refused>
+    requires descend { Descend dbd.now.types None call.now.ssas }
+    requires there { HasPosition dbd.now volume.old position.old }
+    ensures read { IsRead volume.old result volume.new }
+    ensures value { IfOk result (λ o. IsGot dbd.now volume.old call.now position.old o position.new) }
+    ensures kept { IfErr result (λ _. position.new ≡ position.old) }
+    ensures refusal { OnlyDevice result }
+{
+    match seek(volume, dbd, call, position)? {
+        Some(path) => found(volume, dbd, call, position, path),
+        None => Ok(missing(call, position)),
+    }
+}
+
 /// GU, GN or GNP, or its hold form, over a volume: finds the first row that satisfies it, says its status, and leaves the PCB on that
 /// row, whose path the position then has, and `taken` its levels that are returned. Where there is none, GN without a qualified argument
 /// answers GB, and every other get GE.
@@ -142,8 +206,11 @@ pub fn get<S: BlockStore>(
     ensures kept { IfErr result (λ _. position.new ≡ position.old) }
     ensures refusal { OnlyDevice result }
 {
-    match seek(volume, dbd, call, position)? {
-        Some(path) => found(volume, dbd, call, position, path),
-        None => Ok(missing(call, position)),
+    if !call.ssas.is_empty() {
+        return get_by_search(volume, dbd, call, position);
+    }
+    match get_next_twin(volume, dbd, call, position)? {
+        Some(outcome) => Ok(outcome),
+        None => get_by_search(volume, dbd, call, position),
     }
 }

@@ -12,6 +12,7 @@ mod found_row;
 mod judge;
 mod look;
 mod named;
+mod next_twin;
 mod outcome;
 mod plain;
 mod position_after;

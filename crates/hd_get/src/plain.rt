@@ -25,7 +25,7 @@ impl<'a> Model for Plain<'a> {
 }
 
 /// Where a search for rows that the PCB may read goes from a row of a type.
-fn verdict_plain(dbd: &Dbd, pcb: &Pcb, code: u8) -> Verdict
+pub(crate) fn verdict_plain(dbd: &Dbd, pcb: &Pcb, code: u8) -> Verdict
     ensures { result ≡ verdict_plain (record { types = dbd.now.types; pcb = pcb.now }) code }
 {
     if may(dbd, pcb, Access::Get, code) {

@@ -1,15 +1,16 @@
-ghost use Rattle.std.specs.Prelude.{◌≡◌, IsTrue, IfOk, IfErr, OnOk};
+ghost use Rattle.std.specs.Prelude.{◌≡◌, IsTrue, IfOk, IfErr, IfSome, OnOk};
 ghost use Rattle.hd_dbd.specs.Refusals.{OnlyDevice};
 ghost use Rattle.hd_volume.specs.Calls.{IsRead};
 ghost use Rattle.hd_image.specs.Records.{links_of, IsVolumeOf};
 ghost use Rattle.hd_forest.specs.Rows.{IsOnSomeRow};
+ghost use Rattle.hd_forest.specs.Walks.{tip};
 ghost use Rattle.hd_position.specs.Gets.{IsSomewhere, LeadsOn, KeepsParent, StandsOnto};
 
 use crate::levels::Levels;
 use crate::position::{LastType, Position};
 use hd_calls::GetKind;
 use hd_dbd::{Dbd, Refused};
-use hd_forest::{Path, code_at, next_row, tip_of};
+use hd_forest::{Path, code_at, next_row, step_to_twin, tip_of};
 use hd_stores::BlockStore;
 use hd_volume::Volume;
 
@@ -29,6 +30,51 @@ pub fn begin<S: BlockStore>(
     let mut path = position.path().copy();
     next_row(volume, dbd, &mut path)?;
     Ok(path)
+}
+
+/// The path of the row behind those that a PCB has passed, and the code of its type, where that row is the next twin of the last one passed, and this has no
+/// row below it; `None` where it may be another, or there is none. One segment is read; no memory is taken.
+pub fn begin_at_twin<S: BlockStore>(
+    volume: &mut Volume<S>,
+    dbd: &Dbd,
+    position: &Position,
+) -> Result<Option<(Path, u8)>, Refused>
+    requires of { IsTrue volume.old.is_sound → IsVolumeOf dbd.now volume.old }
+    requires there { IsTrue volume.old.is_sound → IsSomewhere dbd.now.types (links_of dbd.now.types volume.old) position.now }
+    ensures read { IsRead volume.old result volume.new }
+    ensures value { IfOk result (λ o. IfSome o (λ r. IsTrue volume.old.is_sound → LeadsOn dbd.now.types (links_of dbd.now.types volume.old) position.now r.0)) }
+    ensures code { IfOk result (λ o. IfSome o (λ r. IsTrue volume.old.is_sound → r.1 ≡ (links_of dbd.now.types volume.old).code (tip r.0))) }
+    ensures refusal { OnlyDevice result }
+{
+    let mut path = position.path().copy();
+    match step_to_twin(volume, dbd, &mut path)? {
+        Some(code) => Ok(Some((path, code))),
+        None => Ok(None),
+    }
+}
+
+/// As `stand`, where the code of the row's type is known: nothing is read.
+pub fn stand_on<S: BlockStore>(
+    volume: &Volume<S>,
+    dbd: &Dbd,
+    position: &mut Position,
+    path: Path,
+    code: u8,
+    kind: GetKind,
+    held: Levels,
+)
+    requires of { IsTrue volume.now.is_sound → IsVolumeOf dbd.now volume.now }
+    requires there { IsTrue volume.now.is_sound → IsOnSomeRow dbd.now.types (links_of dbd.now.types volume.now) path }
+    requires code { IsTrue volume.now.is_sound → code ≡ (links_of dbd.now.types volume.now).code (tip path) }
+    requires parent { IsTrue volume.now.is_sound → KeepsParent kind position.old path }
+    ensures value { IsTrue volume.now.is_sound → StandsOnto dbd.now.types (links_of dbd.now.types volume.now) kind position.old path held position.new }
+{
+    let _ = volume;
+    let last = LastType {
+        level: dbd.level(code),
+        code,
+    };
+    position.stand_on(path, last, kind, held);
 }
 
 /// Leaves a PCB on the row that a path leads to, as a get of a kind does, with the rows of some levels of the path held. One access

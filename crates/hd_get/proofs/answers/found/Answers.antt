@@ -1,55 +1,40 @@
-use Rattle.std.proofs.Common.{◌≡◌, Option, sym, ap, ap₂, subst, ◌∙◌}
-use Rattle.hd_dbd.specs.Positions.{Position, Place}
-use Rattle.hd_dbd.specs.Calls.{Reply}
+use Rattle.std.proofs.Common.{sym, ap, subst, ◌∙◌}
+use Rattle.hd_links.specs.Links.{Links, IsSegment}
 use Rattle.hd_links.specs.Steps.{rows_of}
 use Rattle.hd_image.specs.Records.{links_of}
-use Rattle.hd_forest.specs.Rows.{IsOnRow}
-use Rattle.hd_calls.specs.declared.call.GetKind.{GetKind}
-use Rattle.hd_calls.specs.NoLostUpdate.{is_done}
-use Rattle.hd_calls.specs.Gets.{onto, path_rows}
-use Rattle.hd_position.specs.Kept.{Kept, StandsFor}
+use Rattle.hd_forest.specs.Walks.{tip}
+use Rattle.hd_forest.proofs.Reading.{after-read, sound-before}
 use Rattle.hd_get.specs.Gets.{GetCall}
-use Rattle.hd_get.specs.Found.{sought_by, status_between}
-use Rattle.hd_get.proofs.Seeking.{path_found, found_by, keeps_parent, taken_are, status_is, status_done, answer_found}
+use Rattle.hd_get.specs.Found.{sought_by}
+use Rattle.hd_get.proofs.Grounds.{grounds, tip_there}
+use Rattle.hd_get.proofs.Seeking.{path_found, found_by, position_told, position_back, position_kept}
 use Rattle.hd_get.proofs.answers.found.Goals as goal
 
-pub stand-requires-clause-there : goal.stand-requires-clause-there
-stand-requires-clause-there g c sound =
+pub code_at-requires-clause-there : goal.code_at-requires-clause-there
+code_at-requires-clause-there g c sound =
     let d = c.args.dbd.now in
+    let u = c.args.volume.now in
     let call : GetCall = c.args.call.now in
     let T = c.requires.there sound in
     let P = path_found d.types T.0 c.args.path (sought_by call d.types (rows_of T.0) T.1) (c.requires.sought T.0 T.1 T.2) in
-    (T.0, P.0, record { holds = T.2.holds.records; within = (found_by call d.types (rows_of T.0) T.1 P.0 P.1).within; is = P.2 })
+    subst (IsSegment (links_of d.types u)) (sym c.tip_of.ensures)
+    (tip_there d.types (links_of d.types u) T.0 (grounds d u T.0 T.2.holds.volume T.2.holds.records) c.args.path P.0
+    (record { holds = T.2.holds.records; within = (found_by call d.types (rows_of T.0) T.1 P.0 P.1).within; is = P.2 }))
 
-pub stand-requires-clause-parent : goal.stand-requires-clause-parent
-stand-requires-clause-parent g c sound kind =
+pub leave_on-requires-clause-there : goal.leave_on-requires-clause-there
+leave_on-requires-clause-there g c = position_kept c.args.dbd.now c.args.volume.now c.code_at.new.volume c.in_ok-code.ensures.read c.args.position.now c.requires.there
+
+pub leave_on-requires-clause-sought : goal.leave_on-requires-clause-sought
+leave_on-requires-clause-sought g c f q at = c.requires.sought f q (position_back c.args.dbd.now c.args.volume.now c.code_at.new.volume c.in_ok-code.ensures.read f c.args.position.now q at)
+
+pub leave_on-requires-clause-code : goal.leave_on-requires-clause-code
+leave_on-requires-clause-code g c now =
     let d = c.args.dbd.now in
-    let call : GetCall = c.args.call.now in
-    let T = c.requires.there sound in
-    let P = path_found d.types T.0 c.args.path (sought_by call d.types (rows_of T.0) T.1) (c.requires.sought T.0 T.1 T.2) in
-    keeps_parent d c.args.volume.now T.0 c.args.position.now T.1 T.2 call P.0 (found_by call d.types (rows_of T.0) T.1 P.0 P.1) (ap (λ (x : GetCall). x.kind) (sym c.call.view_is) ∙ kind) c.args.path P.2
+    let u = c.args.volume.now in
+    let v = c.code_at.new.volume in
+    let sound = sound-before u v c.in_ok-code.ensures.read now in
+    c.in_ok-code.ensures.value sound ∙ ap (links_of d.types u).code c.tip_of.ensures
+    ∙ ap (λ (m : Links). m.code (tip c.args.path)) (sym (after-read d u v c.in_ok-code.ensures.read sound).links)
 
 pub returns-clause-value : goal.returns-clause-value
-returns-clause-value g c f q at =
-    let d = c.args.dbd.now in
-    let v = c.args.volume.now in
-    let k : Kept = c.args.position.now in
-    let call : GetCall = c.args.call.now in
-    let P = path_found d.types f c.args.path (sought_by call d.types (rows_of f) q) (c.requires.sought f q at) in
-    let F = found_by call d.types (rows_of f) q P.0 P.1 in
-    let on : IsOnRow d.types (links_of d.types v) f c.args.path P.0 = record { holds = at.holds.records; within = F.within; is = P.2 } in
-    let taken = taken_are d v f k q at call P.0 F c.requires.descend c.args.path c.held_by-held.result on c.held_by-held.ensures in
-    let stands : StandsFor d.types f c.stand.new.position (onto d.types (rows_of f) q call.kind call.hold (path_rows d.types (rows_of f) call.ssas P.0) P.0)
-    = subst (λ (kind : GetKind). StandsFor d.types f c.stand.new.position (onto d.types (rows_of f) q kind call.hold (path_rows d.types (rows_of f) call.ssas P.0) P.0))
-    (ap (λ (x : GetCall). x.kind) c.call.view_is)
-    (c.in_ok-stand.ensures.value at.sound f q P.0 call.hold (path_rows d.types (rows_of f) call.ssas P.0) (record { holds = at.holds.records; stands = at.stands }) on taken) in
-    let is = answer_found call d.types (rows_of f) q P.0 P.1 in
-    let status : c.status_between.result ≡ status_between call.kind call.ssas q.last (onto d.types (rows_of f) q call.kind call.hold (path_rows d.types (rows_of f) call.ssas P.0) P.0).last
-    = c.status_between.ensures
-    ∙ ap₂ (λ (a b : Option Place). status_between call.kind call.ssas a b) (c.last-last.ensures ∙ sym at.stands.last) (c.last.ensures ∙ sym stands.last) in (
-      (
-        ap (λ (r : Reply × Position). r.0.status) is ∙ status_is d.types (rows_of f) q call.kind call.ssas P.0 ∙ sym status,
-        ap is_done c.status_between.ensures ∙ status_done call.kind call.ssas _ _,
-      ),
-      subst (λ (r : Reply × Position). StandsFor d.types f c.stand.new.position r.1) (sym is) stands,
-    )
+returns-clause-value g c f q at = c.leave_on.ensures.value f q (position_told c.args.dbd.now c.args.volume.now c.code_at.new.volume c.in_ok-code.ensures.read f c.args.position.now q at)

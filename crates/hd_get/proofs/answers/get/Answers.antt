@@ -1,32 +1,33 @@
-use Rattle.std.proofs.Common.{sym, subst, ◌∙◌}
-use Rattle.hd_dbd.specs.Positions.{Position}
-use Rattle.hd_dbd.specs.Calls.{Reply}
+use Rattle.std.proofs.Common.{sym, ap, subst, ◌∙◌}
+use Rattle.std.specs.Prelude.{length}
+use Rattle.std.proofs.lemmas.Bool.{eqb-true}
 use Rattle.hd_volume.proofs.JoinLemmas.{if-ok-map}
-use Rattle.hd_links.specs.Steps.{rows_of}
-use Rattle.hd_position.specs.Kept.{StandsFor}
-use Rattle.hd_get.specs.Gets.{IsOutcomeOf}
-use Rattle.hd_get.specs.Found.{sought_by}
-use Rattle.hd_get.proofs.Seeking.{position_told, position_back, position_kept, none_found, answer_missing}
 use Rattle.hd_volume.proofs.CallSteps.{reads-join}
+use Rattle.hd_position.specs.Kept.{Kept}
+use Rattle.hd_get.specs.Gets.{GetCall, IsPositionIn, HasPosition}
+use Rattle.hd_get.proofs.NextTwins.{none_are, none_told}
+use Rattle.hd_get.proofs.Seeking.{position_told, position_kept}
 use Rattle.hd_get.proofs.answers.get.Goals as goal
 
-pub found-requires-clause-there : goal.found-requires-clause-there
-found-requires-clause-there g c = position_kept c.args.dbd.now c.args.volume.now c.seek.new.volume c.in_ok-path.ensures.read c.args.position.now c.requires.there
+pub get_next_twin-requires-clause-bare : goal.get_next_twin-requires-clause-bare
+get_next_twin-requires-clause-bare g c =
+    sym (ap (λ (call : GetCall). call.ssas) c.call.view_is)
+    ∙ sym (none_are c.call.inside.ssas.now (eqb-true (length c.call.inside.ssas.now) 0 (sym c.if-not-is_empty.ensures)))
 
-pub found-requires-clause-sought : goal.found-requires-clause-sought
-found-requires-clause-sought g c f q at =
-    sym c.in-Some.is ∙ c.in_ok-path.ensures.value f q (position_back c.args.dbd.now c.args.volume.now c.seek.new.volume c.in_ok-path.ensures.read f c.args.position.now q at)
+pub get_by_search-requires-in-None-clause-there : goal.get_by_search-requires-in-None-clause-there
+get_by_search-requires-in-None-clause-there g c =
+    let d = c.args.dbd.now in
+    let u = c.args.volume.now in
+    position_kept d u c.get_next_twin.new.volume c.in_ok-outcome.ensures.read c.get_next_twin.new.position
+    (subst (HasPosition d u) (sym (none_told c.in_ok-outcome.field-0 c.in-None.is c.in_ok-outcome.ensures.stays)) c.requires.there)
 
-pub returns-in-Some-clause-value : goal.returns-in-Some-clause-value
-returns-in-Some-clause-value g c = if-ok-map c.found.result (λ o got f q at.
-    got f q (position_told c.args.dbd.now c.args.volume.now c.seek.new.volume c.in_ok-path.ensures.read f c.args.position.now q at)) c.found.ensures.value
+pub returns-in-None-clause-read : goal.returns-in-None-clause-read
+returns-in-None-clause-read g c = reads-join c.get_by_search-in-None.result c.in_ok-outcome.ensures.read c.get_by_search-in-None.ensures.read
 
 pub returns-in-None-clause-value : goal.returns-in-None-clause-value
-returns-in-None-clause-value g c f q at =
-    let types = c.args.dbd.now.types in
-    let none = none_found types f (sought_by c.args.call.now types (rows_of f) q) (sym c.in-None.is ∙ c.in_ok-path.ensures.value f q at) in
-    subst (λ (r : Reply × Position). IsOutcomeOf c.missing.result r.0 × StandsFor types f c.missing.new.position r.1) (sym (answer_missing c.args.call.now types (rows_of f) q none))
-    (c.missing.ensures types f q at.stands)
-
-pub returns-in-Some-clause-read : goal.returns-in-Some-clause-read
-returns-in-Some-clause-read g c = reads-join c.found.result c.in_ok-path.ensures.read c.found.ensures.read
+returns-in-None-clause-value g c = if-ok-map c.get_by_search-in-None.result (λ o got f q at.
+    let d = c.args.dbd.now in
+    let u = c.args.volume.now in
+    let k : Kept = c.get_next_twin.new.position in
+    got f q (position_told d u c.get_next_twin.new.volume c.in_ok-outcome.ensures.read f k q
+    (subst (λ (k : Kept). IsPositionIn d u f k q) (sym (none_told c.in_ok-outcome.field-0 c.in-None.is c.in_ok-outcome.ensures.stays)) at))) c.get_by_search-in-None.ensures.value

@@ -1,15 +1,11 @@
-use Rattle.std.proofs.Common.{◌≡◌, ℕ, List, [], Some, None, Option, sym, ap₂, subst, ◌∙◌}
+use Rattle.std.proofs.Common.{[], Some, None, sym, subst, ◌∙◌}
 use Rattle.hd_image.specs.Records.{links_of}
-use Rattle.hd_position.specs.Kept.{Kept, row_on}
+use Rattle.hd_position.specs.Kept.{Kept}
 use Rattle.hd_get.specs.Starts.{LeadsToStart}
 use Rattle.hd_calls.specs.declared.call.GetKind.TheVariants.{NextInParent}
 use Rattle.hd_get.proofs.Grounds.{grounds}
-use Rattle.hd_get.proofs.Starts.{leads_below, parent_there}
+use Rattle.hd_get.proofs.Starts.{leads_below, parent_there, read_there}
 use Rattle.hd_get.proofs.search_starts.next_in_parent.Goals as goal
-
--- what was read on the kept path at the level of parentage
-read_there : (k : Kept) (path : List ℕ) (level : ℕ) (o : Option ℕ) → path ≡ k.path → level ≡ k.parent → o ≡ row_on path level → row_on k.path k.parent ≡ o
-read_there k path level o e l is = sym (is ∙ ap₂ (λ (xs : List ℕ) (n : ℕ). row_on xs n) e l)
 
 pub returns-in_default-clause-value : goal.returns-in_default-clause-value
 returns-in_default-clause-value g c f q at =

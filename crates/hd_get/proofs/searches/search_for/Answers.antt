@@ -1,19 +1,15 @@
-use Rattle.std.proofs.Common.{◌≡◌, ℕ, ◌<◌, List, [], ◌∷◌, length, Bool, false, refl, arith, sym, ap, subst, ◌∙◌, inl, inr}
-use Rattle.std.specs.Prelude.{◌==◌, option_map}
-use Rattle.std.proofs.lemmas.Bool.{cases_lt, eq-eqb, eqb-true, false≢true}
+use Rattle.std.proofs.Common.{List, length, sym, ap, subst, ◌∙◌}
+use Rattle.std.specs.Prelude.{option_map}
+use Rattle.std.proofs.lemmas.Bool.{eqb-true}
 use Rattle.hd_dbd.specs.Searches.{first_from}
 use Rattle.hd_links.specs.Steps.{rows_of, path_at}
 use Rattle.hd_volume.proofs.JoinLemmas.{if-ok-map}
 use Rattle.hd_calls.specs.Ssas.{Ssa}
 use Rattle.hd_get.specs.Gets.{GetCall}
 use Rattle.hd_get.specs.Found.{satisfies_get, SearchesOn}
+use Rattle.hd_get.proofs.NextTwins.{none_are, some_are}
 use Rattle.hd_get.proofs.NamedRows.{first_satisfying}
 use Rattle.hd_get.proofs.searches.search_for.Goals as goal
-
--- arguments of which there are none
-none_are : (ssas : List Ssa) → length ssas ≡ 0 → [] ≡ ssas
-none_are [] e = refl
-none_are (a ∷ ssas) e = absurd (omega arith)
 
 pub returns-then-is_empty-clause-value : goal.returns-then-is_empty-clause-value
 returns-then-is_empty-clause-value g c = if-ok-map c.search_readable.result (λ r on.
@@ -23,13 +19,6 @@ returns-then-is_empty-clause-value g c = if-ok-map c.search_readable.result (λ 
     subst (λ (call : GetCall). SearchesOn (satisfies_get call d.types) d c.args.volume.now c.args.parent c.args.path.now r c.search_readable.new.path) c.call.view_is
     (subst (λ (ssas : List Ssa). SearchesOn (satisfies_get (record { pcb = inside.pcb.now; kind = inside.kind; hold = inside.hold; ssas = ssas }) d.types) d c.args.volume.now c.args.parent c.args.path.now r c.search_readable.new.path)
     none on)) c.search_readable.ensures.value
-
--- a list that is not said to be empty has an element
-some_are : (n : ℕ) (b : Bool) → b ≡ (n == 0) → b ≡ false → 0 < n
-some_are n b is no_ = elim (cases_lt 0 n) [
-  | inl w ↦ w
-  | inr w ↦ absurd (false≢true (sym no_ ∙ is ∙ eq-eqb n 0 (let z : n ≡ 0 = omega arith in z)))
-]
 
 pub returns-else-is_empty-clause-value : goal.returns-else-is_empty-clause-value
 returns-else-is_empty-clause-value g c = if-ok-map c.search.result (λ r on f n end sound leads.
