@@ -1,24 +1,26 @@
 -- A chain of twins, and where a row without key goes in.
-use Rattle.std.proofs.Common.{◌≡◌, ℕ, suc, ◌<◌, List, Bool, true, false, Option, Some, None, Ok, refl, sym, ap, subst, ◌∙◌, arith, inl, inr}
+use Rattle.std.proofs.Common.{◌≡◌, ℕ, zero, suc, ◌<◌, ◌≤◌, List, [], Bool, true, false, Option, Some, None, Ok, refl, sym, ap, subst, ◌∙◌, arith, inl, inr}
 use Rattle.std.specs.Prelude.{cond, is_some, option_map, option_and_then}
 use Rattle.std.specs.Option.{option_map_or}
-use Rattle.std.specs.Ordering.{nat_cmp}
+use Rattle.std.specs.Ordering.{nat_cmp, is_lt}
+use Rattle.std.specs.declared.cmp.Ordering.{Ordering}
+use Rattle.std.specs.declared.cmp.Ordering.TheVariants.{Less, Equal, Greater}
 use Rattle.std.specs.Cmp.Lexicographic.{slice_cmp}
 use Rattle.std.proofs.lemmas.Bool.{false≢true}
 use Rattle.hd_dbd.specs.declared.hierarchy.Key.{Key}
 use Rattle.hd_dbd.specs.Types.{SegmentType}
 use Rattle.hd_dbd.specs.Segment.{Segment}
-use Rattle.hd_dbd.specs.Hierarchy.{Database, type_of}
+use Rattle.hd_dbd.specs.Hierarchy.{Database, type_of, part_of}
 use Rattle.hd_dbd.specs.Rows.{key_of}
 use Rattle.hd_dbd.specs.Loads.{has_unique_key}
 use Rattle.hd_volume.specs.Volumes.{VolumeState}
 use Rattle.hd_volume.specs.Calls.{IsRead}
 use Rattle.hd_links.specs.Links.{Links, IsSegment, segment_at, is_child_type}
-use Rattle.hd_links.specs.Pointers.{IsInChain}
+use Rattle.hd_links.specs.Pointers.{IsTwinAfter, IsInChain}
 use Rattle.hd_links.proofs.Build.{zero_or}
 use Rattle.hd_links.proofs.Ways.{chain_more}
 use Rattle.hd_image.specs.Records.{links_of}
-use Rattle.hd_forest.specs.Twins.{IsBehind}
+use Rattle.hd_forest.specs.Twins.{AreTwins, twin_after, IsTwinWithin, IsBehind, is_key_below}
 use Rattle.hd_forest.specs.TwinPlaces.{places_of, twin_places}
 use Rattle.hd_forest.proofs.Chains.{twin-some}
 use Rattle.hd_forest.proofs.Held.{held}
@@ -107,3 +109,45 @@ pub gap_told : {A : Type 0} {x : A} (d : Database) (u v : VolumeState) → IsRea
 gap_told d u v read h last row r gap sound =
     let same = after-read d u v read sound in
     subst (λ (k : Links). IsGapFound d.types k (k.first_child h row.code) last row r) same.links (gap same.sound)
+
+-- ---- behind the twins whose keys are below
+
+-- a step along a chain that ends
+step_on : (m : Links) (bound p : ℕ) → 0 < p → IsTwinWithin m bound p 0 → IsTwinWithin m bound (m.forward p) 0
+step_on m bound p some w = by w.after w.few w.is w.twins
+  where
+    by : (n : ℕ) → n ≤ bound → twin_after m n p ≡ 0 → AreTwins m n p → IsTwinWithin m bound (m.forward p) 0
+    by zero few is twins = absurd (omega arith)
+    by (suc n) few is twins = record { after = n; few = omega arith; is = is; twins = twins.1 }
+
+-- what stands behind a twin of a chain that ends, or first in it, is in a chain that ends
+pub within_behind : (m : Links) (bound p y z : ℕ) → IsTwinWithin m bound p 0 → IsBehind m p y z → IsTwinWithin m bound z 0
+within_behind m bound p y z w (inl e) = subst (λ x. IsTwinWithin m bound x 0) e.1 w
+within_behind m bound p y z w (inr b) = subst (λ x. IsTwinWithin m bound x 0) b.2 (along b.1.0 p w b.1.1)
+  where
+    along : (n q : ℕ) → IsTwinWithin m bound q 0 → IsTwinAfter m n q y → IsTwinWithin m bound (m.forward y) 0
+    along zero q w a = subst (λ x. IsTwinWithin m bound (m.forward x) 0) a.1 (step_on m bound q a.0 w)
+    along (suc n) q w a = along n (m.forward q) (step_on m bound q a.0 w) a.1
+
+-- a key that is below another comes before it
+below_first : (types : List SegmentType) (key : List ℕ) (r : Segment) → is_key_below types key r ≡ true → slice_cmp nat_cmp (key_of types r) key ≡ Less
+below_first types key r below = by_type (type_of types r.code) below
+  where
+    less : (o : Ordering) → is_lt o ≡ true → o ≡ Less
+    less Less e = refl
+    less Equal e = cc
+    less Greater e = cc
+
+    by_key : (o : Option Key) → option_map_or (λ k. is_lt (slice_cmp nat_cmp (part_of r.bytes k.start k.length) key)) o false ≡ true
+        → slice_cmp nat_cmp (option_map_or (λ k. part_of r.bytes k.start k.length) o []) key ≡ Less
+    by_key None e = cc
+    by_key (Some k) e = less (slice_cmp nat_cmp (part_of r.bytes k.start k.length) key) e
+
+    by_type : (o : Option SegmentType) → option_map_or (λ t. option_map_or (λ k. is_lt (slice_cmp nat_cmp (part_of r.bytes k.start k.length) key)) t.key false) o false ≡ true
+        → slice_cmp nat_cmp (option_map_or (λ t. option_map_or (λ k. part_of r.bytes k.start k.length) t.key []) o []) key ≡ Less
+    by_type None e = cc
+    by_type (Some t) e = by_key t.key e
+
+-- a new row goes behind a twin whose key is below its own
+pub below_behind : (types : List SegmentType) (m : Links) (last : Bool) (row : Segment) (a : ℕ) → is_key_below types (key_of types row) (segment_at m a) ≡ true → side_at types m last row a ≡ Behind
+below_behind types m last row a below = ap (side_of (has_unique_key types row.code) last) (below_first types (key_of types row) (segment_at m a) below)

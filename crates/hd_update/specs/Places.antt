@@ -25,7 +25,8 @@ use Rattle.hd_image.specs.Records.{links_of, IsVolumeOf}
 use Rattle.hd_image.specs.Holding.{HoldsPlaced}
 use Rattle.hd_forest.specs.Walks.{tip, parent_on, HasForest}
 use Rattle.hd_forest.specs.Rows.{IsOnRow}
-use Rattle.hd_forest.specs.Twins.{IsBehind}
+use Rattle.hd_forest.specs.declared.twins.TwinsAround.{TwinsAround}
+use Rattle.hd_forest.specs.Twins.{IsBehind, IsLastBelow}
 use Rattle.hd_forest.specs.Updates.{MayLink}
 use Rattle.hd_changes.specs.Roots.{is_root_from, first_row}
 use Rattle.hd_position.specs.Kept.{Kept, row_on}
@@ -97,6 +98,11 @@ pub record IsGap (types : List SegmentType) (m : Links) (first : ℕ) (last : Bo
 abbrev pub IsGapFound : List SegmentType → Links → ℕ → Bool → Segment → Option ℕ → Type 0
 IsGapFound types m first last row None = (a : ℕ) × IsInChain m first a × (side_at types m last row a ≡ Taken)
 IsGapFound types m first last row (Some y) = (z : ℕ) × IsGap types m first last row y z
+
+-- where the store is sound, these are the twins around a row's key below h, or the roots: the last whose key is below, and the one behind it
+abbrev pub IsAroundKey : Database → VolumeState → ℕ → Segment → TwinsAround → Type 0
+IsAroundKey d v h row around =
+    IsTrue v.is_sound → IsLastBelow d.types (links_of d.types v) (key_of d.types row) ((links_of d.types v).first_child h row.code) around.before around.from
 
 -- where the store is sound, that is said of the twins of a row's type below h, or of the roots
 abbrev pub IsGapBelow : Database → VolumeState → ℕ → Bool → Segment → Option ℕ → Type 0

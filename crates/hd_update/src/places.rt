@@ -10,13 +10,13 @@ ghost use Rattle.hd_forest.specs.TwinPlaces.{twin_places};
 ghost use Rattle.hd_get.specs.Meeting.{IsStored};
 ghost use Rattle.hd_get.specs.Searches.{IsOf};
 ghost use Rattle.hd_get.specs.Starts.{HasRoots};
-ghost use Rattle.hd_update.specs.Places.{has_key, side_of, side_at, IsGapBelow, HasParent, is_equal_at, standing_path, IsStandingTwin, HasRowOf, IsBeforeEqual, HasNextRoot, HasPlace, IsPlaceBelow};
+ghost use Rattle.hd_update.specs.Places.{has_key, side_of, side_at, IsGapBelow, HasParent, is_equal_at, standing_path, IsStandingTwin, HasRowOf, IsBeforeEqual, HasNextRoot, HasPlace, IsPlaceBelow, IsAroundKey};
 
 use crate::load_rule::key_order;
 use hd_dbd::{Dbd, Refused, Rule, compare_keys};
 use hd_forest::{
-    Path, TwinPlaces, code_at, first_child, forward_in, key_at, last_twin, parent_on, prev_twin,
-    tip_of, twin_places,
+    Path, TwinPlaces, TwinsAround, code_at, first_child, forward_in, key_at, last_twin, parent_on,
+    prev_twin, tip_of, twin_places, twins_around,
 };
 use hd_index::next_from;
 use hd_position::{Position, row_on};
@@ -136,8 +136,30 @@ fn place_without_key<S: BlockStore>(
     Ok(Some(twin))
 }
 
-/// The place of a row by key, from the first twin on: behind the last one behind which it goes. Each twin is read once, and none behind that
-/// but the next.
+/// The twins around a new row's key below a parent.
+fn around_key<S: BlockStore>(
+    volume: &mut Volume<S>,
+    dbd: &Dbd,
+    places: TwinPlaces,
+    parent: u32,
+    code: u8,
+    bytes: &[u8],
+) -> Result<TwinsAround, Refused>
+    requires parent { HasParent dbd.now volume.old parent code }
+    requires places { twin_places dbd.now.types code ≡ Some places }
+    ensures read { IsRead volume.old result volume.new }
+    ensures value { IfOk result (λ r. IsAroundKey dbd.now volume.old parent (record { code = code; bytes = bytes.now }) r) }
+    ensures refusal { OnlyDevice result }
+{
+    let first = first_child(volume, dbd, parent, code)?;
+    if first == 0 {
+        return Ok(TwinsAround { before: 0, from: 0 });
+    }
+    twins_around(volume, dbd, places, first, dbd.key_of(code, bytes))
+}
+
+/// The place of a row by key, from the first twin on: behind the last one behind which it goes. The twins whose keys are below are passed over
+/// block by block; of the others each is read once, and none behind that but the next.
 fn place_from_first<S: BlockStore>(
     volume: &mut Volume<S>,
     dbd: &Dbd,
@@ -155,8 +177,9 @@ fn place_from_first<S: BlockStore>(
         return place_without_key(volume, dbd, parent, last, code);
     };
     let most = volume.length();
-    let mut before = 0;
-    let mut twin = first_child(volume, dbd, parent, code)?;
+    let around = around_key(volume, dbd, places, parent, code, bytes)?;
+    let mut before = around.before;
+    let mut twin = around.from;
     for _ in 0..most {
         if twin == 0 {
             return Ok(Some(before));

@@ -1,4 +1,4 @@
-use Rattle.std.proofs.Common.{◌≡◌, ◌-◌, ◌+◌, ◌<◌, ℕ, suc, length, IsTrue, Ok, Some, None, refl, ap, sym, subst, ◌∙◌, arith, inl}
+use Rattle.std.proofs.Common.{◌≡◌, ◌-◌, ◌+◌, ◌<◌, ℕ, suc, length, IsTrue, Ok, Some, None, ap, sym, subst, ◌∙◌, arith}
 use Rattle.hd_dbd.specs.Hierarchy.{Database}
 use Rattle.hd_dbd.specs.Segment.{Segment}
 use Rattle.hd_volume.specs.Volumes.{VolumeState}
@@ -11,7 +11,7 @@ use Rattle.hd_forest.proofs.Held.{held}
 use Rattle.hd_forest.proofs.Reading.{after-read, volume-kept, links-kept}
 use Rattle.hd_forest.proofs.Tips.{end-within}
 use Rattle.hd_update.specs.Places.{side_at, HasParent}
-use Rattle.hd_update.proofs.PlaceChains.{reached, chain_typed, keyless, some_of}
+use Rattle.hd_update.proofs.PlaceChains.{reached, chain_typed, keyless, some_of, within_behind, below_behind}
 use Rattle.hd_update.proofs.places.place_from_first.Goals as goal
 
 pub place_without_key-requires-clause-without : goal.place_without_key-requires-clause-without
@@ -25,18 +25,23 @@ loop-init g c =
     let d = c.args.dbd.now in
     let u = c.args.volume.now in
     let m : Links = links_of d.types u in
+    let new : Segment = record { code = c.args.code; bytes = c.args.bytes.now } in
+    let around = c.in_ok-around.around in
     record {
-      read = read-ok 0 c.in_ok-twin.ensures.read;
+      read = read-ok 0 c.in_ok-around.ensures.read;
       left = λ sound.
           (let P = c.requires.parent sound in
           let H = held d u P.volume.fit P.volume P.forest in
           let most : c.length-most.result ≡ length u.image = c.length-most.ensures sound in
-          subst (λ n. IsTwinWithin m n c.in_ok-twin.twin 0) (let e : length u.image ≡ c.length-most.result - 0 = omega arith in e)
-          (subst (λ x. IsTwinWithin m (length u.image) x 0) (sym (c.in_ok-twin.ensures.value sound))
-          (end-within d.types H.ordered (length u.image) m H.graph H.linked c.args.parent c.args.code P.here P.typed)));
-      chain = λ sound. inl (refl, sym (c.in_ok-twin.ensures.value sound));
-      side = λ sound none. absurd (omega arith);
+          subst (λ n. IsTwinWithin m n around.from 0) (let e : length u.image ≡ c.length-most.result - 0 = omega arith in e)
+          (within_behind m (length u.image) (m.first_child c.args.parent c.args.code) around.before around.from
+          (end-within d.types H.ordered (length u.image) m H.graph H.linked c.args.parent c.args.code P.here P.typed) (c.in_ok-around.ensures.value sound).behind));
+      chain = λ sound. (c.in_ok-around.ensures.value sound).behind;
+      side = λ sound some. below_behind d.types m c.args.last new around.before ((c.in_ok-around.ensures.value sound).below some);
     }
+
+pub around_key-requires-clause-places : goal.around_key-requires-clause-places
+around_key-requires-clause-places g c = sym c.twin_places.ensures ∙ c.in-Some.is
 
 pub returns-then-twin-eq0-clause-value : goal.returns-then-twin-eq0-clause-value
 returns-then-twin-eq0-clause-value g c sound =
