@@ -2,12 +2,12 @@
 use Rattle.std.proofs.Common.{◌≡◌, ℕ, zero, suc, ◌+◌, ◌*◌, ◌<◌, ◌≤◌, List, [], ◌∷◌, ◌++◌, length, map, take, drop, cond, arith, refl, sym, ap, ap₂, ◌∙◌, subst}
 use Rattle.std.specs.Prelude.{◌-◌, flat_map, slice_get, slice_index}
 use Rattle.std.proofs.lemmas.Grind.{take_at_read}
-use Rattle.std.proofs.lemmas.List.{length-take-le}
+use Rattle.std.proofs.lemmas.List.{length-append, length-take-le}
 use Rattle.hd_dbd.specs.Types.{SegmentType}
 use Rattle.hd_dbd.specs.Hierarchy.{Database, longest_path}
 use Rattle.hd_dbd.specs.Segment.{Segment}
 use Rattle.hd_dbd.specs.Rows.{key_of}
-use Rattle.hd_dbd.specs.Paths.{row_at, level_at, path_of, keys_of}
+use Rattle.hd_dbd.specs.Paths.{row_at, level_at, path_above, path_of, keys_of}
 use Rattle.hd_dbd.specs.Forest.{Forest}
 use Rattle.hd_dbd.proofs.LevelLaw.{leveled}
 use Rattle.hd_dbd.proofs.KeyLengths.{key_of_short}
@@ -15,11 +15,13 @@ use Rattle.hd_volume.specs.Volumes.{VolumeState}
 use Rattle.hd_links.specs.Links.{Links, IsSegment, segment_at}
 use Rattle.hd_links.specs.Placed.{Placed}
 use Rattle.hd_links.specs.Steps.{rows_of, address_at, RowsHaveAddresses}
+use Rattle.hd_links.proofs.Ways.{tip_end}
 use Rattle.hd_links.proofs.Numbers.{rows_addressed}
 use Rattle.hd_links.proofs.ValidRows.{held_valid}
 use Rattle.hd_image.specs.Records.{links_of, IsVolumeOf}
 use Rattle.hd_calls.specs.Gets.{bytes_of}
 use Rattle.hd_forest.specs.Rows.{IsOnRow}
+use Rattle.hd_forest.specs.Walks.{tip}
 use Rattle.hd_position.specs.Kept.{row_on, Ascend, AreRowsOn}
 use Rattle.hd_position.proofs.Splices.{AllBelow, below_more}
 use Rattle.hd_position.proofs.Leaving.{passed_below}
@@ -62,6 +64,10 @@ path_more types m levels room path n within =
     ∙ ap₂ (λ (k b : List ℕ). record { key = k; area = b; room = room }) (flat_map_push (λ x. key_of types (segment_at m x)) front a)
     (bytes_more m.bytes levels 1 front a ∙ ap (λ l. bytes_at m.bytes levels 1 front ++ cond (is_among levels l) (m.bytes a) []) size)
 
+-- one address more, and the path ends there
+pub tip_more : (path : List ℕ) (n : ℕ) → n < length path → tip (take (n + 1) path) ≡ slice_index path n
+tip_more path n within = ap tip (take_at_read path n 0 within).1 ∙ tip_end 0 (take n path) (slice_index path n)
+
 module _ (d : Database) (v : VolumeState) (f : Forest Placed) (path : List ℕ) (i : ℕ) (of : IsVolumeOf d v) (on : IsOnRow d.types (links_of d.types v) f path i) where
   addressed : RowsHaveAddresses (links_of d.types v) f
   addressed = rows_addressed d.types (links_of d.types v) f on.holds
@@ -71,6 +77,13 @@ module _ (d : Database) (v : VolumeState) (f : Forest Placed) (path : List ℕ) 
 
   long : length path ≡ length (path_of d.types (rows_of f) i)
   long = ap (λ (xs : List ℕ). length xs) on.is ∙ mapped_long (address_at f) (path_of d.types (rows_of f) i)
+
+  -- a row's path ends with the row
+  pub path_some : 0 < length path
+  path_some =
+      let end : length (path_of d.types (rows_of f) i) ≡ length (path_above d.types (rows_of f) (level_at d.types (rows_of f) i) i) + 1
+      = length-append (path_above d.types (rows_of f) (level_at d.types (rows_of f) i) i) (i ∷ []) in
+      omega (arith, long, end)
 
   -- each address is that of a segment
   pub stored_on : (n : ℕ) → n < length path → IsSegment (links_of d.types v) (slice_index path n)

@@ -10,16 +10,14 @@ use Rattle.hd_dbd.specs.Types.{SegmentType}
 use Rattle.hd_dbd.specs.Hierarchy.{Database}
 use Rattle.hd_dbd.specs.Rows.{key_of}
 use Rattle.hd_dbd.specs.declared.answer.Refused.{Refused}
-use Rattle.hd_dbd.specs.declared.answer.Status.{Status}
 use Rattle.hd_volume.specs.Volumes.{VolumeState}
 use Rattle.hd_volume.specs.Calls.{IsRead}
 use Rattle.hd_links.specs.Links.{Links, segment_at}
 use Rattle.hd_image.specs.Records.{links_of}
-use Rattle.hd_forest.specs.Rows.{IsOnRow}
+use Rattle.hd_forest.specs.Walks.{tip}
 use Rattle.hd_forest.proofs.Reading.{after-read, links-kept}
-use Rattle.hd_session.specs.declared.call_and_answer.Answer.{Answer}
 use Rattle.hd_session.specs.Buffer.{Buffer}
-use Rattle.hd_session.specs.Giving.{IsEmpty, IsAnswerOf, HasAdded, is_among, bytes_at, with_path}
+use Rattle.hd_session.specs.Giving.{IsEmpty, IsCodeOn, HasAdded, is_among, bytes_at, with_path}
 use Rattle.hd_session.specs.Above.{Above, above_nothing, AreKeysIn, AreKeysOf, AreNoted, is_begun_by, are_below}
 
 -- ---- what is added of them
@@ -81,16 +79,9 @@ module _ {A : Type 0} {x : A} (d : Database) (u v : VolumeState) (read : IsRead 
   pub added_before : (path levels : List ℕ) (n : ℕ) (b : Buffer) → HasAdded d v path levels n b → HasAdded d u path levels n b
   added_before path levels n b has sound = (let same = after-read d u v read sound in subst (λ (m : Links). b ≡ with_path d.types m levels b.room (take n path)) same.links (has same.sound))
 
-  -- an answer gives the row of a path that it gave before
-  pub answer_before : (path : List ℕ) (status : Status) (answer : Answer) → IsAnswerOf d v path status answer → IsAnswerOf d u path status answer
-  answer_before path status answer is levels b has f i taken pcb at =
-      let same = after-read d u v read at.sound in
-      is levels b (λ _. subst (λ (m : Links). b ≡ with_path d.types m levels b.room path) (sym same.links) (has at.sound)) f i taken pcb (record {
-        sound = same.sound;
-        row = subst (λ (m : Links). IsOnRow d.types m f path i) (sym same.links) at.row;
-        rows = at.rows;
-        ascend = at.ascend;
-      })
+  -- a code is that of the row that it was of
+  pub code_before : (path : List ℕ) (n code : ℕ) → IsCodeOn d v path n code → IsCodeOn d u path n code
+  code_before path n code is sound = (let same = after-read d u v read sound in subst (λ (m : Links). code ≡ m.code (tip (take n path))) same.links (is same.sound))
 
 -- all rows of a path
 pub added_all : (d : Database) (v : VolumeState) (path levels : List ℕ) (b : Buffer) → HasAdded d v path levels (length path) b → IsTrue v.is_sound → b ≡ with_path d.types (links_of d.types v) levels b.room path

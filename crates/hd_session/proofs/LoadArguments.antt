@@ -1,7 +1,7 @@
 -- What the arguments of an ISRT insert: nothing where there is none, one row where the PCB loads.
 use Rattle.std.proofs.Common.{◌≡◌, ℕ, ◌<◌, ◌≤◌, List, [], ◌∷◌, length, drop, Bool, true, false, cond, Ok, Option, Some, None, refl, sym, ap, subst, ◌∙◌, arith, inl, inr, Err}
 use Rattle.std.specs.Prelude.{Result, is_some, map, nat_le, not, ◌||◌, ◌==◌, slice_index_or, option_and_then}
-use Rattle.std.specs.Option.{option_map_or, ok_or}
+use Rattle.std.specs.Option.{ok_or}
 use Rattle.std.proofs.lemmas.Bool.{and_parts, cases_lt, eq-eqb, eqb-true, leb-true, false≢true}
 use Rattle.hd_dbd.specs.Types.{SegmentType, View}
 use Rattle.hd_dbd.specs.Hierarchy.{Database, type_of}

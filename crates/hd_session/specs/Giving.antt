@@ -16,6 +16,7 @@ use Rattle.hd_links.specs.Steps.{rows_of}
 use Rattle.hd_image.specs.Records.{links_of}
 use Rattle.hd_calls.specs.Gets.{bytes_of}
 use Rattle.hd_forest.specs.Rows.{IsOnRow}
+use Rattle.hd_forest.specs.Walks.{tip}
 use Rattle.hd_position.specs.Kept.{AreRowsOn, Ascend}
 use Rattle.hd_session.specs.declared.call_and_answer.Answer.{Answer}
 use Rattle.hd_session.specs.Buffer.{Buffer, KEY_ROOM}
@@ -77,6 +78,10 @@ with_path types m levels room path = record {
 abbrev pub IsAnswerOf : Database → VolumeState → List ℕ → Status → Answer → Type 0
 IsAnswerOf d v path status answer =
     (levels : List ℕ) (b : Buffer) → (IsTrue v.is_sound → b ≡ with_path d.types (links_of d.types v) levels b.room path) → IsGiven d v path levels status (reply_of answer b)
+
+-- where the store is sound, the code is that of the last of the first so many segments on a path
+abbrev pub IsCodeOn : Database → VolumeState → List ℕ → ℕ → ℕ → Type 0
+IsCodeOn d v path n code = IsTrue v.is_sound → code ≡ (links_of d.types v).code (tip (take n path))
 
 -- where the store is sound, the buffer has the keys of so many rows on a path, and the bytes of those at the levels
 abbrev pub HasAdded : Database → VolumeState → List ℕ → List ℕ → ℕ → Buffer → Type 0

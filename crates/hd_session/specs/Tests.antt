@@ -11,9 +11,8 @@ use Rattle.hd_dbd.specs.Forest.{Forest}
 use Rattle.hd_dbd.specs.Views.{Setting, may}
 use Rattle.hd_calls.specs.declared.call.Function.{Function}
 use Rattle.hd_dbd.specs.Letters.{gives_replace}
-use Rattle.hd_calls.specs.Functions.{function_of}
-use Rattle.hd_calls.specs.Ssas.{Ssa, resolve}
-use Rattle.hd_calls.specs.Steps.{AcceptedCall, is_excepted, last_tests, accepted_call}
+use Rattle.hd_calls.specs.Ssas.{Ssa}
+use Rattle.hd_calls.specs.Steps.{AcceptedCall, is_excepted, last_tests}
 use Rattle.hd_volume.specs.Volumes.{VolumeState}
 use Rattle.hd_links.specs.Placed.{Placed}
 use Rattle.hd_links.specs.Steps.{rows_of}
@@ -60,20 +59,3 @@ abbrev pub IsLastTest : Database → VolumeState → View → Kept → Function 
 IsLastTest d v pcb k function ssas failed =
     (f : Forest Placed) (q : Position) → IsPositionIn d v f k q
     → AreLastTests (record { types = d.types; pcb = pcb }) (rows_of f) q function ssas failed
-
--- Wherever what is kept stands for a position, the tests of a call with this function and these arguments come to this, whatever its
--- area is.
-abbrev pub IsTestedText : Database → VolumeState → View → Kept → List ℕ → List (List ℕ) → Result AcceptedCall Status → Type 0
-IsTestedText d v pcb k function ssas result =
-    (f : Forest Placed) (q : Position) (area : List ℕ) → IsPositionIn d v f k q
-    → accepted_call (record { types = d.types; pcb = pcb }) (rows_of f) q (record { function = function; ssas = ssas; area = area }) ≡ result
-
--- the arguments of an accepted call are what their texts mean to the PCB
-abbrev pub AreResolved : Database → View → List (List ℕ) → Result AcceptedCall Status → Type 0
-AreResolved d pcb texts (Ok a) = resolve (record { types = d.types; pcb = pcb }) a.function texts ≡ Ok a.ssas
-AreResolved d pcb texts (Err status) = Unit {0}
-
--- the function of an accepted call is the one that its four bytes name
-abbrev pub IsNamed : List ℕ → Result AcceptedCall Status → Type 0
-IsNamed function (Ok a) = function_of function ≡ Some a.function
-IsNamed function (Err status) = Unit {0}

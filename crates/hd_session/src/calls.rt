@@ -17,19 +17,21 @@ ghost use Rattle.hd_session.specs.Inserts.{AreArgumentsOf};
 ghost use Rattle.hd_session.specs.Sessions.{IsStepDone, IsUndoneUnlessDevice, IsRoomLacking, IsMemoryLacking, own_in, call_in, IfFewNoInsert};
 
 use crate::above::KeysAbove;
-use crate::accepted::{Accepted, accept};
+use crate::accepted::Accepted;
 use crate::buffer::IoArea;
 use crate::call_and_answer::{Answer, Call};
+use crate::functions::function_of;
 use crate::get_answers::answer_get;
 use crate::given_rows::give_none;
 use crate::insert_answers::answer_isrt;
 use crate::load_answers::answer_load;
+use crate::tests_by_function::last_test;
 use crate::update_answers::{answer_dlet, answer_repl};
 use hd_calls::Function;
 use hd_dbd::{Dbd, Pcb, Refused, Status};
 use hd_get::Get;
 use hd_position::Position;
-use hd_ssa::{ResolvedSsa, loads};
+use hd_ssa::{ResolvedSsa, SsaFault, loads, resolve};
 use hd_stores::BlockStore;
 use hd_volume::Volume;
 use std::alloc::Global;
@@ -118,7 +120,7 @@ fn answer_accepted<S: BlockStore>(
     ensures same_room { io.new.room ≡ io.old.room }
     ensures many { length positions.new ≡ length positions.old }
 {
-    let ssas = accepted.ssas.ssas();
+    let ssas = accepted.ssas;
     match accepted.function {
         Function::Get(kind, hold) => {
             let call = Get {
@@ -144,7 +146,57 @@ fn answer_accepted<S: BlockStore>(
     }
 }
 
-/// One call of the PCB of a number, counted from 1: its tests in their order, and then its own work.
+/// A call that names this function, and whose arguments mean this: its last tests, and then its own work.
+fn answer_tested<S: BlockStore>(
+    volume: &mut Volume<S>,
+    dbd: &Dbd,
+    pcb: &Pcb,
+    positions: &mut [Position],
+    number: usize,
+    call: &Call,
+    function: Function,
+    ssas: &[ResolvedSsa<'_>],
+    above: &mut KeysAbove,
+    io: &mut IoArea,
+) -> Result<Answer, Refused>
+    requires number { (0 < number) × (number ≤ length positions.old) }
+    requires size { volume.old.size ≡ dbd.now.block_size }
+    requires sizes { volume.old.sizes ≡ stored_sizes dbd.now.types }
+    requires state { HasState dbd.now volume.old positions.old }
+    requires loader { loads pcb.now ≡ true → HasPassedAll dbd.now volume.old positions.old number }
+    requires known { AreKeysOf dbd.now volume.old above.old }
+    requires room { longest_path dbd.now.types ≤ io.old.room }
+    requires empty { IsEmpty io.old }
+    requires named { function_of call.now.function ≡ Some function }
+    requires resolved { resolve (record { types = dbd.now.types; pcb = pcb.now }) function call.now.ssas ≡ Ok ssas.now }
+    ensures call { IsCall volume.old result volume.new }
+    ensures known { IfOk result (λ _. AreKeysOf dbd.now volume.new above.new) }
+    ensures done { IfOk result (λ a. IsStepDone dbd.now volume.old positions.old number (call_in dbd.now pcb.now number call.now) (reply_of a io.new) volume.new positions.new) }
+    ensures undone { IfErr result (λ e. IsUndoneUnlessDevice volume.old positions.old e volume.new positions.new) }
+    ensures area { IfErr result (λ e. IsAreaWrong dbd.now volume.old positions.old (call_in dbd.now pcb.now number call.now) e) }
+    ensures full { IfErr result (λ e. IsRoomLacking dbd.now volume.old positions.old (call_in dbd.now pcb.now number call.now) e) }
+    ensures refusal { IfErr result (λ e. e ≢ Refused.Broken) }
+    ensures memory { IfFewNoInsert call.now (IfErr result (λ e. IsMemoryLacking dbd.now volume.old positions.old (call_in dbd.now pcb.now number call.now) e)) }
+    ensures never { function_of call.now.function ≢ Some Function.Insert → function_of call.now.function ≢ Some Function.Replace → length call.now.ssas ≤ 4 → IfErr result (λ e. e ≢ Refused.Memory) }
+    ensures empty { IfErr result (λ _. IsEmpty io.new) }
+    ensures same_room { io.new.room ≡ io.old.room }
+    ensures many { length positions.new ≡ length positions.old }
+{
+    match last_test(volume, dbd, pcb, &positions[number - 1], function, ssas)? {
+        Some(status) => Ok(fail(positions, number, status, io)),
+        None => {
+            let accepted = Accepted { function, ssas };
+            answer_accepted(
+                volume, dbd, pcb, positions, number, call, &accepted, above, io,
+            )
+        }
+    }
+}
+
+/// One call of the PCB of a number, counted from 1: its tests in their order, of which the first that fails answers, and then its own work. The tests are AD for
+/// the function, AJ, AC and AK for the segment search arguments, AM for PROCOPT, AH where ISRT has no argument, DJ where nothing is held, GP where GNP has no parent.
+///
+/// `Memory` may come of the tests with five arguments or more.
 pub fn call_step<S: BlockStore>(
     alloc: Global,
     volume: &mut Volume<S>,
@@ -177,18 +229,32 @@ pub fn call_step<S: BlockStore>(
     ensures many { length positions.new ≡ length positions.old }
 {
     io.clear();
-    match accept(
-        alloc,
-        volume,
-        dbd,
-        pcb,
-        &positions[number - 1],
-        call.func,
-        &call.ssas,
-    )? {
-        Err(status) => Ok(fail(positions, number, status, io)),
-        Ok(accepted) => answer_accepted(
-            volume, dbd, pcb, positions, number, call, &accepted, above, io,
-        ),
+    let Some(function) = function_of(call.func) else {
+        return Ok(fail(positions, number, Status::AD, io));
+    };
+    let texts = call.ssas.as_slice();
+    if texts.is_empty() {
+        return answer_tested(
+            volume,
+            dbd,
+            pcb,
+            positions,
+            number,
+            call,
+            function,
+            &[],
+            above,
+            io,
+        );
+    }
+    match resolve(alloc, function, texts, pcb, dbd) {
+        Ok(resolved) => {
+            let ssas = resolved.ssas();
+            answer_tested(
+                volume, dbd, pcb, positions, number, call, function, ssas, above, io,
+            )
+        }
+        Err(SsaFault::Status(status)) => Ok(fail(positions, number, status, io)),
+        Err(SsaFault::Memory) => Err(Refused::Memory),
     }
 }

@@ -1,22 +1,24 @@
-ghost use Rattle.std.specs.Prelude.{◌≡◌, ◌≤◌, ◌-◌, ℕ, List, IsTrue, IfOk, IfErr, OnOk, length, option_map, take};
+ghost use Rattle.std.specs.Prelude.{◌≡◌, ◌<◌, ◌≤◌, ◌-◌, ℕ, List, IsTrue, IfOk, IfErr, OnOk, length, option_map, take};
 ghost use Rattle.hd_dbd.specs.Hierarchy.{longest_path, type_of};
 ghost use Rattle.hd_dbd.specs.Types.{SegmentType};
 ghost use Rattle.hd_dbd.specs.Calls.{bare};
 ghost use Rattle.hd_dbd.specs.Refusals.{OnlyDevice};
 ghost use Rattle.hd_volume.specs.Calls.{IsRead};
+ghost use Rattle.hd_volume.specs.Volumes.{VolumeState};
 ghost use Rattle.hd_prefix.specs.Fields.{code_of};
 ghost use Rattle.hd_links.specs.Links.{Links};
+ghost use Rattle.hd_image.specs.Records.{links_of};
 ghost use Rattle.hd_get.specs.Meeting.{IsStored};
 ghost use Rattle.hd_get.specs.Searches.{IsOf, IsThere};
 ghost use Rattle.hd_session.specs.Replies.{reply_of};
-ghost use Rattle.hd_session.specs.Giving.{IsGiven, IsEmpty, IsSegmentAdded, HasRoom, with_row, is_among, with_path, IsAnswerOf, HasAdded};
+ghost use Rattle.hd_session.specs.Giving.{IsGiven, IsEmpty, IsSegmentAdded, HasRoom, with_row, is_among, with_path, IsAnswerOf, IsCodeOn, HasAdded};
 ghost use Rattle.hd_session.specs.Above.{AreKeysIn, AreKeysOf, are_below};
 
 use crate::above::KeysAbove;
 use crate::buffer::IoArea;
 use crate::call_and_answer::Answer;
 use hd_dbd::{Dbd, Name8, Refused, Status};
-use hd_forest::{Path, bytes_in, code_at, tip_of};
+use hd_forest::{Path, bytes_in};
 use hd_position::Levels;
 use hd_stores::BlockStore;
 use hd_volume::Volume;
@@ -53,27 +55,30 @@ fn code_in(segment: &[u8]) -> u8
     segment.first().copied().unwrap_or(0)
 }
 
-/// Adds the key of the segment at an address, and its bytes where they are given. One access.
+/// Adds the key of the segment at an address, and its bytes where they are given, and says its code. One access.
 fn add_segment<S: BlockStore>(
     volume: &mut Volume<S>,
     dbd: &Dbd,
     address: u32,
     is_given: bool,
     io: &mut IoArea,
-) -> Result<(), Refused>
+) -> Result<u8, Refused>
     requires of { IsOf dbd.now volume.old }
     requires there { IsStored dbd.now volume.old address }
     ensures read { IsRead volume.old result volume.new }
+    ensures code { IfOk result (λ code. IsTrue volume.old.is_sound → code ≡ (links_of dbd.now.types volume.old).code address) }
     ensures added { OnOk result (IsTrue volume.old.is_sound → IsSegmentAdded dbd.now volume.old address is_given io.old io.new) }
     ensures same_room { io.new.room ≡ io.old.room }
     ensures refusal { OnlyDevice result }
 {
     let segment = volume.segment_at(address)?;
-    add_row(dbd, code_in(segment), bytes_in(dbd, segment), is_given, io);
-    Ok(())
+    let code = code_in(segment);
+    add_row(dbd, code, bytes_in(dbd, segment), is_given, io);
+    Ok(code)
 }
 
-/// Adds the keys of the rows on a path, and the bytes of those at the levels: behind what so many rows gave, what those up to another give.
+/// Adds the keys of the rows on a path, and the bytes of those at the levels: behind what so many rows gave, what those up to another give. Says the code of
+/// the last of them.
 fn add_path<S: BlockStore>(
     volume: &mut Volume<S>,
     dbd: &Dbd,
@@ -82,7 +87,7 @@ fn add_path<S: BlockStore>(
     from: usize,
     to: usize,
     io: &mut IoArea,
-) -> Result<(), Refused>
+) -> Result<u8, Refused>
     requires of { IsOf dbd.now volume.old }
     requires there { IsThere dbd.now volume.old path.now }
     requires part { (from ≤ to) × (to ≤ length path.now) }
@@ -90,15 +95,17 @@ fn add_path<S: BlockStore>(
     requires room { longest_path dbd.now.types ≤ io.old.room }
     ensures read { IsRead volume.old result volume.new }
     ensures added { OnOk result (HasAdded dbd.now volume.old path.now levels.now to io.new) }
+    ensures code { IfOk result (λ code. from < to → IsCodeOn dbd.now volume.old path.now to code) }
     ensures same_room { io.new.room ≡ io.old.room }
     ensures refusal { OnlyDevice result }
 {
     let addresses = path.addresses();
+    let mut code = 0;
     for place in from..to {
         let is_given = is_among(levels, place as u8 + 1);
-        add_segment(volume, dbd, addresses[place], is_given, io)?;
+        code = add_segment(volume, dbd, addresses[place], is_given, io)?;
     }
-    Ok(())
+    Ok(code)
 }
 
 /// Adds the keys of the rows above to an empty area, where a path goes on below them and no bytes of theirs are given, and answers how
@@ -118,7 +125,7 @@ fn add_above(path: &Path, levels: &Levels, above: &KeysAbove, io: &mut IoArea) -
 }
 
 /// Adds the keys of the rows on a path to an empty area, and the bytes of those at the levels. What is known of the rows above is not read
-/// again, and the rows above the last are noted, unless all of them are known.
+/// again, and the rows above the last are noted, unless all of them are known. Says the code of the last.
 fn add_known<S: BlockStore>(
     volume: &mut Volume<S>,
     dbd: &Dbd,
@@ -126,7 +133,7 @@ fn add_known<S: BlockStore>(
     levels: &Levels,
     above: &mut KeysAbove,
     io: &mut IoArea,
-) -> Result<(), Refused>
+) -> Result<u8, Refused>
     requires of { IsOf dbd.now volume.old }
     requires there { IsThere dbd.now volume.old path.now }
     requires known { AreKeysOf dbd.now volume.old above.old }
@@ -134,6 +141,7 @@ fn add_known<S: BlockStore>(
     requires room { longest_path dbd.now.types ≤ io.old.room }
     ensures read { IsRead volume.old result volume.new }
     ensures added { OnOk result (HasAdded dbd.now volume.old path.now levels.now (length path.now) io.new) }
+    ensures code { IfOk result (λ code. IsCodeOn dbd.now volume.old path.now (length path.now) code) }
     ensures known { OnOk result (AreKeysOf dbd.now volume.new above.new) }
     ensures same_room { io.new.room ≡ io.old.room }
     ensures refusal { OnlyDevice result }
@@ -156,25 +164,15 @@ fn name_of(dbd: &Dbd, code: u8) -> Option<Name8>
     dbd.type_of(code).map(|segment| segment.name)
 }
 
-/// The answer that gives the last row of a path, beside what its rows gave.
-fn answer_of<S: BlockStore>(
-    volume: &mut Volume<S>,
-    dbd: &Dbd,
-    path: &Path,
-    status: Status,
-) -> Result<Answer, Refused>
-    requires of { IsOf dbd.now volume.old }
-    requires there { IsThere dbd.now volume.old path.now }
-    ensures read { IsRead volume.old result volume.new }
-    ensures given { IfOk result (λ a. IsAnswerOf dbd.now volume.old path.now status a) }
-    ensures refusal { OnlyDevice result }
+/// The answer that gives the last row of a path, of the type of a code, beside what its rows gave.
+fn answer_of(dbd: &Dbd, path: &Path, code: u8, status: Status) -> Answer
+    ensures given { (v : VolumeState) → IsOf dbd.now v → IsCodeOn dbd.now v path.now (length path.now) code → IsAnswerOf dbd.now v path.now status result }
 {
-    let code = code_at(volume, dbd, tip_of(path))?;
-    Ok(Answer {
+    Answer {
         status,
         level: path.level(),
         segment: name_of(dbd, code),
-    })
+    }
 }
 
 /// The answer that gives the last row of a path, into an empty area.
@@ -195,8 +193,8 @@ fn give_path<S: BlockStore>(
     ensures same_room { io.new.room ≡ io.old.room }
     ensures refusal { OnlyDevice result }
 {
-    add_path(volume, dbd, path, levels, 0, path.addresses().len(), io)?;
-    answer_of(volume, dbd, path, status)
+    let code = add_path(volume, dbd, path, levels, 0, path.addresses().len(), io)?;
+    Ok(answer_of(dbd, path, code, status))
 }
 
 /// The same, where the rows above may be known.
@@ -220,8 +218,8 @@ fn give_known_path<S: BlockStore>(
     ensures same_room { io.new.room ≡ io.old.room }
     ensures refusal { OnlyDevice result }
 {
-    add_known(volume, dbd, path, levels, above, io)?;
-    answer_of(volume, dbd, path, status)
+    let code = add_known(volume, dbd, path, levels, above, io)?;
+    Ok(answer_of(dbd, path, code, status))
 }
 
 /// The answer that gives the last row of a path: its level and name, and into the I/O area, which is emptied first, the keys on the path

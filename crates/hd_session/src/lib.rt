@@ -20,10 +20,11 @@ mod session;
 mod tests_by_function;
 mod update_answers;
 
-pub use accepted::{Accepted, accept};
 pub use buffer::IoArea;
 pub use call_and_answer::{Answer, Call};
+pub use functions::function_of;
 pub use given_rows::give;
 pub use law::{law_no_lost_update, law_sessions_answer_their_logs};
 pub use opening::OpenFault;
 pub use session::Session;
+pub use tests_by_function::last_test;

@@ -17,7 +17,7 @@ use Rattle.hd_session.proofs.calls.answer_accepted.Goals as goal
 pub answer_get-requires-clause-descend : goal.answer_get-requires-clause-descend
 answer_get-requires-clause-descend g c =
     let d = c.args.dbd.now in
-    rw (c.ssas-ssas.ensures, ap (λ (x : AcceptedCall). x.ssas) c.accepted.view_is)
+    rw (ap (λ (x : AcceptedCall). x.ssas) c.accepted.view_is)
     (resolved_descend (record { types = d.types; pcb = c.args.pcb.now }) c.args.accepted.now.function c.args.call.now.ssas c.args.accepted.now.ssas c.requires.resolved)
 
 pub returns-in-Get-clause-done : goal.returns-in-Get-clause-done
@@ -25,8 +25,8 @@ returns-in-Get-clause-done g c = if-ok c.answer_get.result c.answer_get.ensures.
     let d = c.args.dbd.now in
     let n : ℕ = c.args.number in
     step_as d c.args.volume.now st n _ (own_in d c.args.pcb.now n c.args.call.now.area c.args.accepted.now st) c.answer_get.new.volume c.answer_get.new.positions
-    (own_is d c.args.pcb.now n st c.args.call.now.area c.args.call.now.area (Get c.in-Get.kind c.in-Get.hold) c.accepted.inside.function c.ssas-ssas.result.now c.accepted.inside.ssas c.args.accepted.now
-    refl c.ssas-ssas.ensures c.in-Get.is c.accepted.view_is) (done st sound R))
+    (own_is d c.args.pcb.now n st c.args.call.now.area c.args.call.now.area (Get c.in-Get.kind c.in-Get.hold) c.accepted.inside.function c.accepted.inside.ssas.now c.accepted.inside.ssas.now c.args.accepted.now
+    refl refl c.in-Get.is c.accepted.view_is) (done st sound R))
 
 -- ---- ISRT
 
@@ -35,23 +35,23 @@ returns-in-Insert-clause-done g c = if-ok c.answer_insert.result c.answer_insert
     let d = c.args.dbd.now in
     let n : ℕ = c.args.number in
     step_as d c.args.volume.now st n _ (own_in d c.args.pcb.now n c.args.call.now.area c.args.accepted.now st) c.answer_insert.new.volume c.answer_insert.new.positions
-    (own_is d c.args.pcb.now n st c.deref.result.now c.args.call.now.area Insert c.accepted.inside.function c.ssas-ssas.result.now c.accepted.inside.ssas c.args.accepted.now
-    (c.deref.ensures.value ∙ ap (λ (x : CallText). x.area) c.call.view_is) c.ssas-ssas.ensures c.in-Insert.is c.accepted.view_is) (done st sound R))
+    (own_is d c.args.pcb.now n st c.deref.result.now c.args.call.now.area Insert c.accepted.inside.function c.accepted.inside.ssas.now c.accepted.inside.ssas.now c.args.accepted.now
+    (c.deref.ensures.value ∙ ap (λ (x : CallText). x.area) c.call.view_is) refl c.in-Insert.is c.accepted.view_is) (done st sound R))
 
 pub returns-in-Insert-clause-area : goal.returns-in-Insert-clause-area
 returns-in-Insert-clause-area g c = if-err-map c.answer_insert.result (λ e area st is sound R.
     let d = c.args.dbd.now in
     let n : ℕ = c.args.number in
-    sym (own_is d c.args.pcb.now n st c.deref.result.now c.args.call.now.area Insert c.accepted.inside.function c.ssas-ssas.result.now c.accepted.inside.ssas c.args.accepted.now
-    (c.deref.ensures.value ∙ ap (λ (x : CallText). x.area) c.call.view_is) c.ssas-ssas.ensures c.in-Insert.is c.accepted.view_is) ∙ area st is sound R) c.answer_insert.ensures.area
+    sym (own_is d c.args.pcb.now n st c.deref.result.now c.args.call.now.area Insert c.accepted.inside.function c.accepted.inside.ssas.now c.accepted.inside.ssas.now c.args.accepted.now
+    (c.deref.ensures.value ∙ ap (λ (x : CallText). x.area) c.call.view_is) refl c.in-Insert.is c.accepted.view_is) ∙ area st is sound R) c.answer_insert.ensures.area
 
 pub returns-in-Insert-clause-full : goal.returns-in-Insert-clause-full
 returns-in-Insert-clause-full g c = if-err-map c.answer_insert.result (λ e full st is sound R.
     let d = c.args.dbd.now in
     let n : ℕ = c.args.number in
     subst (λ (x : Effect). LacksRoomFor d c.args.volume.now st.rows x)
-    (own_is d c.args.pcb.now n st c.deref.result.now c.args.call.now.area Insert c.accepted.inside.function c.ssas-ssas.result.now c.accepted.inside.ssas c.args.accepted.now
-    (c.deref.ensures.value ∙ ap (λ (x : CallText). x.area) c.call.view_is) c.ssas-ssas.ensures c.in-Insert.is c.accepted.view_is) (full st is sound R)) c.answer_insert.ensures.full
+    (own_is d c.args.pcb.now n st c.deref.result.now c.args.call.now.area Insert c.accepted.inside.function c.accepted.inside.ssas.now c.accepted.inside.ssas.now c.args.accepted.now
+    (c.deref.ensures.value ∙ ap (λ (x : CallText). x.area) c.call.view_is) refl c.in-Insert.is c.accepted.view_is) (full st is sound R)) c.answer_insert.ensures.full
 
 -- ---- REPL and DLET
 
@@ -60,39 +60,39 @@ returns-in-Replace-clause-done g c = if-ok c.answer_repl.result c.answer_repl.en
     let d = c.args.dbd.now in
     let n : ℕ = c.args.number in
     step_as d c.args.volume.now st n _ (own_in d c.args.pcb.now n c.args.call.now.area c.args.accepted.now st) c.answer_repl.new.volume c.answer_repl.new.positions
-    (own_is d c.args.pcb.now n st c.deref-in-Replace.result.now c.args.call.now.area Replace c.accepted.inside.function c.ssas-ssas.result.now c.accepted.inside.ssas c.args.accepted.now
-    (c.deref-in-Replace.ensures.value ∙ ap (λ (x : CallText). x.area) c.call.view_is) c.ssas-ssas.ensures c.in-Replace.is c.accepted.view_is) (done c.args.pcb.now st sound R))
+    (own_is d c.args.pcb.now n st c.deref-in-Replace.result.now c.args.call.now.area Replace c.accepted.inside.function c.accepted.inside.ssas.now c.accepted.inside.ssas.now c.args.accepted.now
+    (c.deref-in-Replace.ensures.value ∙ ap (λ (x : CallText). x.area) c.call.view_is) refl c.in-Replace.is c.accepted.view_is) (done c.args.pcb.now st sound R))
 
 pub returns-in-Replace-clause-area : goal.returns-in-Replace-clause-area
 returns-in-Replace-clause-area g c = if-err-map c.answer_repl.result (λ e area st is sound R.
     let d = c.args.dbd.now in
     let n : ℕ = c.args.number in
-    sym (own_is d c.args.pcb.now n st c.deref-in-Replace.result.now c.args.call.now.area Replace c.accepted.inside.function c.ssas-ssas.result.now c.accepted.inside.ssas c.args.accepted.now
-    (c.deref-in-Replace.ensures.value ∙ ap (λ (x : CallText). x.area) c.call.view_is) c.ssas-ssas.ensures c.in-Replace.is c.accepted.view_is) ∙ area c.args.pcb.now st is sound R) c.answer_repl.ensures.area
+    sym (own_is d c.args.pcb.now n st c.deref-in-Replace.result.now c.args.call.now.area Replace c.accepted.inside.function c.accepted.inside.ssas.now c.accepted.inside.ssas.now c.args.accepted.now
+    (c.deref-in-Replace.ensures.value ∙ ap (λ (x : CallText). x.area) c.call.view_is) refl c.in-Replace.is c.accepted.view_is) ∙ area c.args.pcb.now st is sound R) c.answer_repl.ensures.area
 
 pub returns-in-Replace-clause-full : goal.returns-in-Replace-clause-full
 returns-in-Replace-clause-full g c = if-err-map c.answer_repl.result (λ e full st is sound R.
     let d = c.args.dbd.now in
     let n : ℕ = c.args.number in
     subst (λ (x : Effect). LacksRoomFor d c.args.volume.now st.rows x)
-    (own_is d c.args.pcb.now n st c.deref-in-Replace.result.now c.args.call.now.area Replace c.accepted.inside.function c.ssas-ssas.result.now c.accepted.inside.ssas c.args.accepted.now
-    (c.deref-in-Replace.ensures.value ∙ ap (λ (x : CallText). x.area) c.call.view_is) c.ssas-ssas.ensures c.in-Replace.is c.accepted.view_is) (full c.args.pcb.now st is sound R)) c.answer_repl.ensures.full
+    (own_is d c.args.pcb.now n st c.deref-in-Replace.result.now c.args.call.now.area Replace c.accepted.inside.function c.accepted.inside.ssas.now c.accepted.inside.ssas.now c.args.accepted.now
+    (c.deref-in-Replace.ensures.value ∙ ap (λ (x : CallText). x.area) c.call.view_is) refl c.in-Replace.is c.accepted.view_is) (full c.args.pcb.now st is sound R)) c.answer_repl.ensures.full
 
 pub returns-in-Replace-clause-memory : goal.returns-in-Replace-clause-memory
 returns-in-Replace-clause-memory g c other = if-err-map c.answer_repl.result (λ e memory st is sound R.
     let d = c.args.dbd.now in
     let n : ℕ = c.args.number in
     subst (λ (x : Effect). StoresSome st.rows x)
-    (own_is d c.args.pcb.now n st c.deref-in-Replace.result.now c.args.call.now.area Replace c.accepted.inside.function c.ssas-ssas.result.now c.accepted.inside.ssas c.args.accepted.now
-    (c.deref-in-Replace.ensures.value ∙ ap (λ (x : CallText). x.area) c.call.view_is) c.ssas-ssas.ensures c.in-Replace.is c.accepted.view_is) (memory is c.args.pcb.now st sound R)) c.answer_repl.ensures.memory
+    (own_is d c.args.pcb.now n st c.deref-in-Replace.result.now c.args.call.now.area Replace c.accepted.inside.function c.accepted.inside.ssas.now c.accepted.inside.ssas.now c.args.accepted.now
+    (c.deref-in-Replace.ensures.value ∙ ap (λ (x : CallText). x.area) c.call.view_is) refl c.in-Replace.is c.accepted.view_is) (memory is c.args.pcb.now st sound R)) c.answer_repl.ensures.memory
 
 pub returns-in-Delete-clause-done : goal.returns-in-Delete-clause-done
 returns-in-Delete-clause-done g c = if-ok c.answer_dlet.result c.answer_dlet.ensures.done (λ a done st sound R.
     let d = c.args.dbd.now in
     let n : ℕ = c.args.number in
     step_as d c.args.volume.now st n _ (own_in d c.args.pcb.now n c.args.call.now.area c.args.accepted.now st) c.answer_dlet.new.volume c.answer_dlet.new.positions
-    (own_is d c.args.pcb.now n st c.args.call.now.area c.args.call.now.area Delete c.accepted.inside.function c.ssas-ssas.result.now c.accepted.inside.ssas c.args.accepted.now
-    refl c.ssas-ssas.ensures c.in-Delete.is c.accepted.view_is) (done c.args.pcb.now st sound R))
+    (own_is d c.args.pcb.now n st c.args.call.now.area c.args.call.now.area Delete c.accepted.inside.function c.accepted.inside.ssas.now c.accepted.inside.ssas.now c.args.accepted.now
+    refl refl c.in-Delete.is c.accepted.view_is) (done c.args.pcb.now st sound R))
 
 -- ---- memory, of which a get and a DLET take none
 

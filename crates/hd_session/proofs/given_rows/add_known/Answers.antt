@@ -1,10 +1,12 @@
-use Rattle.std.proofs.Common.{◌≡◌, ℕ, ◌-◌, List, length, ap, subst, ◌∙◌, arith}
+use Rattle.std.proofs.Common.{◌≡◌, ℕ, ◌-◌, ◌<◌, List, length, ap, subst, ◌∙◌, arith}
+use Rattle.hd_volume.proofs.JoinLemmas.{if-ok-map}
 use Rattle.hd_image.specs.Records.{links_of}
 use Rattle.hd_forest.proofs.Reading.{links-kept, volume-kept}
 use Rattle.hd_forest.specs.Rows.{IsOnSomeRow}
-use Rattle.hd_session.specs.Giving.{HasAdded}
+use Rattle.hd_session.specs.Giving.{IsCodeOn, HasAdded}
 use Rattle.hd_session.specs.Above.{AreNoted}
-use Rattle.hd_session.proofs.KeysKnown.{added_kept, added_before, keys_kept, noted, if_done}
+use Rattle.hd_session.proofs.GivenPaths.{path_some}
+use Rattle.hd_session.proofs.KeysKnown.{added_kept, added_before, code_before, keys_kept, noted, if_done}
 use Rattle.hd_session.proofs.given_rows.add_known.Goals as goal
 
 pub add_path-requires-clause-part : goal.add_path-requires-clause-part
@@ -65,3 +67,28 @@ returns-clause-known g c = if_done c.add_path-3.result c.add_path-3.ensures.read
     keys_kept d mid c.add_path-3.new.volume read above
     (noted d mid path levels last io above is (added_kept d c.args.volume.now mid c.in_ok-add_path.ensures.read path levels last io c.in_ok-add_path.ensures.added)
     (subst (λ (keys : List ℕ). AreNoted path keys above) c.key.ensures c.note.ensures)))
+
+-- ---- the code of the last row
+
+pub returns-then-known-last-clause-code : goal.returns-then-known-last-clause-code
+returns-then-known-last-clause-code g c = if-ok-map c.add_path.result (λ code is sound.
+    let d = c.args.dbd.now in
+    let u = c.args.volume.now in
+    let path : List ℕ = c.args.path.now in
+    let T = c.requires.there sound in
+    let some : 0 < length path = path_some d u T.0 path T.1 (c.requires.of sound) T.2 in
+    let rows : length c.addresses-rows.result.now ≡ length path = ap length c.addresses-rows.ensures.value in
+    let last = c.saturating_sub-last.ensures in
+    subst (λ n. IsCodeOn d u path n code) rows (is (omega arith)) sound) c.add_path.ensures.code
+
+pub returns-clause-code : goal.returns-clause-code
+returns-clause-code g c = if-ok-map c.add_path-3.result (λ code is sound.
+    let d = c.args.dbd.now in
+    let u = c.args.volume.now in
+    let path : List ℕ = c.args.path.now in
+    let T = c.requires.there sound in
+    let some : 0 < length path = path_some d u T.0 path T.1 (c.requires.of sound) T.2 in
+    let rows : length c.addresses-rows.result.now ≡ length path = ap length c.addresses-rows.ensures.value in
+    let last = c.saturating_sub-last.ensures in
+    code_before d u c.add_path-2.new.volume c.in_ok-add_path.ensures.read path (length path) code
+    (subst (λ n. IsCodeOn d c.add_path-2.new.volume path n code) rows (is (omega arith))) sound) c.add_path-3.ensures.code

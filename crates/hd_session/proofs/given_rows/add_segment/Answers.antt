@@ -7,13 +7,21 @@ use Rattle.hd_forest.proofs.Reading.{lent}
 use Rattle.hd_session.specs.Giving.{HasRoom, with_row}
 use Rattle.hd_session.proofs.given_rows.add_segment.Goals as goal
 
+pub returns-clause-code : goal.returns-clause-code
+returns-clause-code g c sound =
+    let d = c.args.dbd.now in
+    let v = c.args.volume.now in
+    let of = c.requires.of sound in
+    let l = lent d v c.args.address c.in_ok-segment.segment.now of.fit of (c.requires.there sound) (c.in_ok-segment.ensures.value sound) in
+    c.code_in-code.ensures ∙ ap code_of (sym l.stored)
+
 pub returns-clause-added : goal.returns-clause-added
 returns-clause-added g c sound =
     let d = c.args.dbd.now in
     let v = c.args.volume.now in
     let of = c.requires.of sound in
     let l = lent d v c.args.address c.in_ok-segment.segment.now of.fit of (c.requires.there sound) (c.in_ok-segment.ensures.value sound) in
-    let row : record { code = c.code_in.result; bytes = c.bytes_in.result.now } ≡ segment_at (links_of d.types v) c.args.address
-    = ap₂ (λ (k : ℕ) (b : List ℕ). record { code = k; bytes = b }) (c.code_in.ensures ∙ ap code_of (sym l.stored))
+    let row : record { code = c.code_in-code.result; bytes = c.bytes_in.result.now } ≡ segment_at (links_of d.types v) c.args.address
+    = ap₂ (λ (k : ℕ) (b : List ℕ). record { code = k; bytes = b }) (c.code_in-code.ensures ∙ ap code_of (sym l.stored))
     (c.bytes_in.ensures l.whole ∙ ap (λ (x : List ℕ). bytes_of d.types (code_of x) x) (sym l.stored)) in
     subst (λ (r : Segment). HasRoom d.types r c.args.io.now → c.add_row.new.io ≡ with_row d.types c.args.is_given r c.args.io.now) row c.add_row.ensures.added
