@@ -6,3 +6,4 @@ pub mod Passing
 pub mod LevelPhases
 pub mod NotedSequence
 pub mod LevelsFound
+pub mod FirstFaults

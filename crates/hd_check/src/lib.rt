@@ -5,8 +5,10 @@
 
 mod checks;
 mod levels;
+mod lists;
 mod phases;
 
 pub use checks::{CheckFault, Passed, check};
 pub use hd_check_blocks::Fault;
 pub use hd_image::Line;
+pub use lists::all_faults;

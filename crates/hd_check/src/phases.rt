@@ -237,7 +237,7 @@ fn entries_fault<S: BlockStore>(
 }
 
 /// The least fault of the index.
-fn index_fault<S: BlockStore>(
+pub fn index_fault<S: BlockStore>(
     alloc: Global,
     places: &[Place],
     directory: &Directory,

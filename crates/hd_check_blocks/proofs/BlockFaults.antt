@@ -1,6 +1,6 @@
 -- The least fault of the second phase is what is wrong with the first wrong block.
-use Rattle.std.proofs.Common.{◌≡◌, ◌≢◌, ◌⊎◌, inl, inr, ℕ, ◌+◌, ◌*◌, ◌<◌, ◌≤◌, List, slice_index, refl, sym, ap, subst, ◌∙◌, arith}
-use Rattle.std.proofs.lemmas.Bool.{cases_order}
+use Rattle.std.proofs.Common.{◌≡◌, ◌≢◌, ◌⊎◌, inl, inr, ℕ, ◌+◌, ◌*◌, ◌<◌, ◌≤◌, List, slice_index, [], ◌∷◌, ◌++◌, Option, Some, None, IfNone, IfSome, refl, sym, ap, subst, ◌∙◌, arith}
+use Rattle.std.proofs.lemmas.Bool.{cases_order, cases_lt}
 use Rattle.hd_bytes.specs.Blocks.{HasBlock}
 use Rattle.std.proofs.lemmas.Nat.{row_fits}
 use Rattle.hd_bytes.proofs.BlockLemmas.{length-block}
@@ -15,6 +15,8 @@ use Rattle.hd_image.specs.declared.line.Line.TheVariants.{NoVolume, NoVersion, A
 use Rattle.hd_image.proofs.BlockNoFault.{divided-chain, divided-place, one-wrong-place}
 use Rattle.hd_check_blocks.specs.declared.fault.Fault.{Fault}
 use Rattle.hd_check_blocks.specs.Phases.{IsRightBlock, IsWrongAt, IsWrongBlock, AreBlocksRight, IsLeastOf}
+use Rattle.hd_check_blocks.specs.Listing.{IsListed, AreStanding, faults_of}
+use Rattle.hd_check_blocks.proofs.Listing.{AreStandingAmong, joined, said-by, none-among, all-standing}
 
 -- a line of the second phase
 pub second-lines : (P : Line → Type 0) → P WrongChain → P WrongPlace → P NoKind → (k : Line) → phase_of k ≡ 2 → P k
@@ -160,3 +162,89 @@ all-right v h some right = record {
         | inr (inr three) ↦ inr (inr (record { there = there; later = later; kind_is = three }))
       ]);
 }
+
+-- ---- all wrong blocks
+
+-- the address is in block n
+abbrev pub IsIn : VolumeState → ℕ → ℕ → Type 0
+IsIn v n a = (n * v.size ≤ a) × (a < n * v.size + v.size)
+
+module _ (d : Database) (v : VolumeState) (some : 0 < v.size) where
+  -- what stands in a block is wrong with it
+  wrong-in : (n : ℕ) (k : Line) (a o : ℕ) → phase_of k ≡ 2 → Stands d v k a o → IsIn v n a → (place : ℕ) × (a ≡ n * v.size + place) × IsWrongIn v n k place
+  wrong-in n k a o two stands is =
+      let w = wrong-of d v k a o some two stands in
+      let at = w.at in
+      let short = w.short in
+      let low = is.0 in
+      let high = is.1 in
+      elim (cases_order w.n n) [
+        | inl same ↦ (w.place, at ∙ ap (λ (m : ℕ). m * v.size + w.place) same, subst (λ (m : ℕ). IsWrongIn v m k w.place) same w.is)
+        | inr (inl less) ↦ absurd (let fits : w.n * v.size + v.size ≤ n * v.size = row_fits w.n v.size n v.size less (omega arith) in omega arith)
+        | inr (inr more) ↦ absurd (let fits : n * v.size + v.size ≤ w.n * v.size = row_fits n v.size w.n v.size more (omega arith) in omega arith)
+      ]
+
+  -- a fault of a block is all that stands there
+  one-standing : (n place : ℕ) (f : Fault) → phase_of f.line ≡ 2 → f.address ≡ n * v.size + place → place < v.size → IsWrongIn v n f.line place → Stands d v f.line f.address f.other
+      → AreStandingAmong d v 2 (λ k a. IsIn v n a) (f ∷ [])
+  one-standing n place f two at short wrong stands = record {
+    stand = (two, stands, tt);
+    among = ((omega arith, omega arith), tt);
+    all = λ k a o is in-n s.
+        (let w = wrong-in n k a o is s in-n in
+        let both = same-wrong v n f.line k place w.0 wrong w.2 in
+        inl (both.0, at ∙ ap (λ (p : ℕ). n * v.size + p) both.1 ∙ sym w.1));
+    ascend = (tt, tt);
+  }
+
+  -- what is wrong with a block is all that stands there
+  wrong-standing : (n : ℕ) (f : Fault) → HasBlock v.size v.image n → 0 < n → IsWrongBlock v.sizes (block_at v n) (n * v.size) f → AreStandingAmong d v 2 (λ k a. IsIn v n a) (f ∷ [])
+  wrong-standing n f there later (inl c) =
+      let W : Fault → Type 0 = λ x. AreStandingAmong d v 2 (λ k a. IsIn v n a) (x ∷ []) in
+      subst W (sym c.0) (one-standing n 0 (record { line = WrongChain; address = n * v.size; other = 0 }) refl (omega arith) some
+      (inl (refl, refl, c.1, c.2)) (n, record { there = there; later = later; kind_is = c.1 }, c.2, refl, refl))
+  wrong-standing n f there later (inr (inl c)) =
+      let W : Fault → Type 0 = λ x. AreStandingAmong d v 2 (λ k a. IsIn v n a) (x ∷ []) in
+      let at = c.3 in
+      let short : c.0 < v.size = (let l = at.4 in let len = length-block v.size n v.image there in omega arith) in
+      subst W (sym c.1) (one-standing n c.0 (record { line = WrongPlace; address = n * v.size + c.0; other = 0 }) refl refl short
+      (inr (inl (refl, c.2, at))) (n, c.0, at.0, at.1, record { there = there; later = later; kind_is = c.2 }, at.2, at.3, at.4, at.5, refl, refl))
+  wrong-standing n f there later (inr (inr c)) =
+      let W : Fault → Type 0 = λ x. AreStandingAmong d v 2 (λ k a. IsIn v n a) (x ∷ []) in
+      subst W (sym c.0) (one-standing n 0 (record { line = NoKind; address = n * v.size; other = 0 }) refl (omega arith) some
+      (inr (inr (refl, refl, c.1, c.2, c.3))) (n, there, later, c.1, c.2, c.3, refl, refl))
+
+  -- what is found of a block is all that stands there
+  pub block-standing : (n : ℕ) (found : Option Fault) → HasBlock v.size v.image n → 0 < n → IfNone found (IsRightBlock v.sizes (block_at v n))
+      → IfSome found (λ f. IsWrongBlock v.sizes (block_at v n) (n * v.size) f) → AreStandingAmong d v 2 (λ k a. IsIn v n a) (faults_of found)
+  block-standing n None there later right wrong = none-among d v 2 (λ k a. IsIn v n a) (λ k a o two s is. (let w = wrong-in n k a o two s is in right-not-wrong v n k w.0 w.2 right))
+  block-standing n (Some f) there later right wrong = wrong-standing n f there later wrong
+
+  -- nothing stands in block 0
+  pub none-standing : AreStandingAmong d v 2 (λ k a. a < 1 * v.size) []
+  none-standing = none-among d v 2 (λ k a. a < 1 * v.size) (λ k a o two s low.
+      (let w = wrong-of d v k a o some two s in
+      let at = w.at in
+      let later = w.later in
+      let fits : 0 * v.size + v.size ≤ w.n * v.size = row_fits 0 v.size w.n v.size later (omega arith) in
+      omega arith))
+
+  -- one block more is listed
+  pub block-more : (n : ℕ) (fs gs : List Fault) → AreStandingAmong d v 2 (λ k a. a < n * v.size) fs → AreStandingAmong d v 2 (λ k a. IsIn v n a) gs
+      → AreStandingAmong d v 2 (λ k a. a < (n + 1) * v.size) (fs ++ gs)
+  block-more n fs gs h g =
+      let next : (n + 1) * v.size ≡ n * v.size + v.size = omega arith in
+      said-by d v 2 (λ k a. (a < n * v.size) ⊎ IsIn v n a) (λ k a. a < (n + 1) * v.size) (fs ++ gs)
+      (λ k a p. elim p [ inl l ↦ omega arith | inr i ↦ (let high = i.1 in omega arith) ])
+      (λ k a o two s low. elim (cases_lt a (n * v.size)) [ inl l ↦ inl l | inr high ↦ inr (omega arith, omega arith) ])
+      (joined d v 2 (λ k a. a < n * v.size) (λ k a. IsIn v n a) fs gs (λ k a l b p less q i. inl (let low = i.0 in omega arith)) h g)
+
+  -- all blocks are listed
+  pub blocks-standing : (n : ℕ) (fs : List Fault) → HasHeader v.size v.image → (header_of v.image).count ≤ n → AreStandingAmong d v 2 (λ k a. a < n * v.size) fs → AreStanding d v 2 fs
+  blocks-standing n fs h whole listed = all-standing d v 2 (λ k a. a < n * v.size) fs (λ k a o two s.
+      (let w = wrong-of d v k a o some two s in
+      let at = w.at in
+      let short = w.short in
+      let low = below-count v w.n h some w.there in
+      let fits : w.n * v.size + v.size ≤ n * v.size = row_fits w.n v.size n v.size (omega arith) (omega arith) in
+      omega arith)) listed

@@ -1,5 +1,5 @@
 -- The least fault of the first phase is what is wrong with the header.
-use Rattle.std.proofs.Common.{◌≡◌, ◌≢◌, ◌⊎◌, inl, inr, ℕ, ◌<◌, ◌≤◌, length, refl, sym, subst, ◌∙◌, arith}
+use Rattle.std.proofs.Common.{◌≡◌, ◌≢◌, ◌⊎◌, inl, inr, ℕ, ◌<◌, ◌≤◌, List, [], ◌∷◌, ◌++◌, Bool, true, false, Some, None, length, refl, sym, ap, subst, ◌∙◌, arith}
 use Rattle.hd_bytes.specs.Blocks.{HasBlock}
 use Rattle.hd_bytes.proofs.BlockLemmas.{length-block}
 use Rattle.hd_dbd.specs.Hierarchy.{Database}
@@ -13,6 +13,9 @@ use Rattle.hd_image.specs.declared.line.Line.{Line}
 use Rattle.hd_image.specs.declared.line.Line.TheVariants.{NoVolume, NoVersion, AnotherDatabase, WrongChain, WrongPlace, NoKind, Deleted, NamesNothing, NamesAnother, TwoPredecessors, NoPredecessor, WrongBackward, WrongLast, OutOfOrder, NotReached, WrongTop, WrongForm, NamedTwice, UnreachedBlock, WrongNext, EntryOutOfOrder, WrongEntry, NoEntry}
 use Rattle.hd_check_blocks.specs.declared.fault.Fault.{Fault}
 use Rattle.hd_check_blocks.specs.Phases.{CountsImage, IsNamed, IsWrongHeader, IsHeaderRight, IsLeastOf}
+use Rattle.hd_check_blocks.specs.Listing.{IsListed, AreStanding, faults_of, fault_unless}
+use Rattle.hd_check_blocks.specs.Heads.{AreHeadsListed}
+use Rattle.hd_check_blocks.proofs.Listing.{AreStandingAmong, joined, said-by, all-standing, told}
 
 -- a line of the first phase
 pub first-lines : (P : Line → Type 0) → P NoVolume → P NoVersion → P AnotherDatabase → (k : Line) → phase_of k ≡ 1 → P k
@@ -113,3 +116,46 @@ module _ (d : Database) (v : VolumeState) (size : v.size ≡ d.block_size) (leas
   -- a wrong header of block 0 is the least fault
   pub header-wrong : (f : Fault) → IsWrongHeader d v.size (length v.image) (header_of (block_at v 0)) f → IsLeastOf d v 1 f
   header-wrong f w = wrong-by f (subst (λ (h : Header). IsWrongHeader d v.size (length v.image) h f) head-is w)
+
+-- ---- all that is wrong with a header
+
+-- what stands of the first phase stands at the header
+at-zero : (d : Database) (v : VolumeState) (k : Line) (a o : ℕ) → phase_of k ≡ 1 → Stands d v k a o → a ≡ 0
+at-zero d v k a o one = first-lines (λ x. Stands d v x a o → a ≡ 0) (λ s. s.1) (λ s. s.1) (λ s. s.1) k one
+
+-- a line that stands at the header unless that is right
+unless-told : (d : Database) (v : VolumeState) (line : Line) (right : Bool) (other : ℕ) → phase_of line ≡ 1 → (right ≡ true → (o : ℕ) → Stands d v line 0 o → ⊥) → (right ≡ false → Stands d v line 0 other)
+    → AreStandingAmong d v 1 (λ k a. (k ≡ line) × (a ≡ 0)) (faults_of (fault_unless right line other))
+unless-told d v line true other one none some = told d v 1 line 0 None one (none refl) tt
+unless-told d v line false other one none some = told d v 1 line 0 (Some (record { line = line; address = 0; other = other })) one tt (refl, refl, some refl)
+
+-- of two lines at the header the lesser number comes first
+by-number : (k : Line) (a : ℕ) (l : Line) (b m n : ℕ) → a ≡ 0 → b ≡ 0 → number_of k a ≡ m → number_of l b ≡ n → m < n → (a < b) ⊎ ((a ≡ b) × (number_of k a < number_of l b))
+by-number k a l b m n e f p q less = inr (e ∙ sym f, omega arith)
+
+module _ (d : Database) (v : VolumeState) (size : v.size ≡ d.block_size) (least : 128 ≤ v.size) (there : HasBlock v.size v.image 0) where
+  -- what is wrong with a header by itself is all that stands
+  heads-by : (counts known named : Bool) → (counts ≡ true → CountsImage v.size (length v.image) (header_of v.image)) → (counts ≡ false → CountsImage v.size (length v.image) (header_of v.image) → ⊥)
+      → (known ≡ true → IsKnownVersion d.types (header_of v.image).version) → (known ≡ false → IsKnownVersion d.types (header_of v.image).version → ⊥)
+      → (named ≡ true → IsNamed d (header_of v.image)) → (named ≡ false → ((header_of v.image).name ≢ d.name) ⊎ ((header_of v.image).block_size ≢ d.block_size))
+      → AreStanding d v 1 (faults_of (fault_unless counts NoVolume 0) ++ (faults_of (fault_unless known NoVersion (header_of v.image).version) ++ faults_of (fault_unless named AnotherDatabase 0)))
+  heads-by counts known named c c' k k' n n' =
+      all-standing d v 1 (λ l a. ((l ≡ NoVolume) × (a ≡ 0)) ⊎ (((l ≡ NoVersion) × (a ≡ 0)) ⊎ ((l ≡ AnotherDatabase) × (a ≡ 0)))) _
+      (λ l a o one s. first-lines (λ x. ((x ≡ NoVolume) × (a ≡ 0)) ⊎ (((x ≡ NoVersion) × (a ≡ 0)) ⊎ ((x ≡ AnotherDatabase) × (a ≡ 0))))
+      (inl (refl, at-zero d v l a o one s)) (inr (inl (refl, at-zero d v l a o one s))) (inr (inr (refl, at-zero d v l a o one s))) l one)
+      (joined d v 1 (λ l a. (l ≡ NoVolume) × (a ≡ 0)) (λ l a. ((l ≡ NoVersion) × (a ≡ 0)) ⊎ ((l ≡ AnotherDatabase) × (a ≡ 0))) (faults_of (fault_unless counts NoVolume 0)) _
+      (λ x a y b p e q f. elim f [
+        | inl g ↦ by-number x a y b 1 2 e.1 g.1 (ap (λ (z : Line). number_of z a) e.0) (ap (λ (z : Line). number_of z b) g.0) (omega arith)
+        | inr g ↦ by-number x a y b 1 3 e.1 g.1 (ap (λ (z : Line). number_of z a) e.0) (ap (λ (z : Line). number_of z b) g.0) (omega arith)
+      ])
+      (unless-told d v NoVolume counts 0 refl (λ is o s. s.0 (whole-header d v size least there (c is))) (λ is. (λ h. c' is (counted d v size least there h), refl, refl)))
+      (joined d v 1 (λ l a. (l ≡ NoVersion) × (a ≡ 0)) (λ l a. (l ≡ AnotherDatabase) × (a ≡ 0)) (faults_of (fault_unless known NoVersion (header_of v.image).version)) (faults_of (fault_unless named AnotherDatabase 0))
+      (λ x a y b p e q g. by-number x a y b 2 3 e.1 g.1 (ap (λ (z : Line). number_of z a) e.0) (ap (λ (z : Line). number_of z b) g.0) (omega arith))
+      (unless-told d v NoVersion known (header_of v.image).version refl (λ is o s. s.0 (k is)) (λ is. (k' is, refl, refl)))
+      (unless-told d v AnotherDatabase named 0 refl (λ is o s. elim s.0 [ inl x ↦ x (n is).0 | inr x ↦ x (n is).1 ]) (λ is. (n' is, refl, refl)))))
+
+  -- what is listed of the header of block 0 is all that stands
+  pub heads-standing : (new : List Fault) → AreHeadsListed d v.size (length v.image) (header_of (block_at v 0)) [] new → AreStanding d v 1 new
+  heads-standing new is =
+      let h = subst (λ (x : Header). AreHeadsListed d v.size (length v.image) x [] new) (head-is d v size least there) is in
+      subst (AreStanding d v 1) (sym h.new_is) (heads-by h.counts h.known h.named h.counts_right h.counts_wrong h.known_right h.known_wrong h.named_right h.named_wrong)

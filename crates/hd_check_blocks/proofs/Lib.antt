@@ -1,8 +1,9 @@
 pub mod ChainSteps
 pub mod Readings
 pub mod NotedParts
+pub mod Lookups
+pub mod Listing
 pub mod HeaderFaults
 pub mod BlockFaults
 pub mod PlaceLemmas
-pub mod Lookups
 pub mod Lent

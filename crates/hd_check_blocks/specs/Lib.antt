@@ -3,3 +3,5 @@ pub mod Reading
 pub mod Places
 pub mod Lending
 pub mod Finding
+pub mod Listing
+pub mod Heads

@@ -1,5 +1,5 @@
 //! Phase 2: the blocks, one by one.
-ghost use Rattle.std.specs.Prelude.{◌≡◌, ◌≤◌, ◌<◌, ◌+◌, ◌*◌, ◌%◌, ◌++◌, ℕ, List, [], ◌==◌, cond, length, slice_index, IsTrue};
+ghost use Rattle.std.specs.Prelude.{◌≡◌, ◌≤◌, ◌<◌, ◌+◌, ◌*◌, ◌%◌, ◌++◌, ℕ, List, [], ◌==◌, cond, length, slice_index, IsTrue, IfOk};
 ghost use Rattle.hd_bytes.specs.Blocks.{HasBlock};
 ghost use Rattle.hd_dbd.specs.Refusals.{OnlyMemory, OnlyDeviceOrMemory};
 ghost use Rattle.hd_dbd.specs.Facts.{stored_sizes};
@@ -9,12 +9,14 @@ ghost use Rattle.hd_volume.specs.Headers.{HasHeader};
 ghost use Rattle.hd_volume.specs.Volumes.{block_at, kind_of, HasExtents};
 ghost use Rattle.hd_volume.specs.Calls.{IsRead};
 ghost use Rattle.hd_check_blocks.specs.Phases.{IsRightBlock, IsWrongBlock, AreBlocksRight, IsLeastOf};
+ghost use Rattle.hd_check_blocks.specs.Listing.{AreStanding};
 ghost use Rattle.hd_check_blocks.specs.Places.{places_in, places_at, ArePlaces};
 ghost use Rattle.hd_check_blocks.specs.Finding.{WhereNone, WhereSome, IfFindsNone, IfFindsSome};
 ghost use Rattle.hd_volume.specs.declared.load.TheConstants.{MOST_BLOCKS};
 
 use crate::fault::Fault;
 use crate::free_elements::is_chain_right;
+use crate::lists::list_fault;
 use crate::places::Place;
 use crate::wrong_place::wrong_place;
 use hd_dbd::{Dbd, Refused, SegmentSize};
@@ -126,4 +128,31 @@ pub fn blocks_fault<S: BlockStore>(
         }
     }
     Ok(None)
+}
+
+/// All that is wrong with the blocks of a volume whose header is right: of each block what comes first.
+pub fn blocks_faults<S: BlockStore>(
+    alloc: Global,
+    volume: &mut Volume<S>,
+    dbd: &Dbd,
+) -> Result<Vec<Fault>, Refused>
+    requires header { IsTrue volume.old.is_sound → HasHeader volume.old.size volume.old.image }
+    requires size { (volume.old.size ≡ dbd.now.block_size) × (volume.old.sizes ≡ stored_sizes dbd.now.types) }
+    ensures read { IsRead volume.old result volume.new }
+    ensures faults { IfOk result (λ faults. IsTrue volume.old.is_sound → AreStanding dbd.now volume.old 2 faults.items) }
+    ensures refusal { OnlyDeviceOrMemory result }
+{
+    let Ok(sizes) = size_table(alloc, dbd) else {
+        return Err(Refused::Memory);
+    };
+    let mut faults = Vec::new(alloc);
+    let mut places = Vec::new(alloc);
+    let count = volume.block_count().min(MOST_BLOCKS);
+    let size = volume.block_size();
+    for n in 1..count {
+        let found = stored_block_fault(&mut places, volume, dbd, &sizes, n, size)?;
+        list_fault(&mut faults, found)?;
+        places.clear();
+    }
+    Ok(faults)
 }

@@ -9,14 +9,16 @@ mod fault;
 mod free_elements;
 mod header;
 mod keys;
+mod lists;
 mod lookup;
 mod places;
 mod wrong_place;
 
-pub use blocks::blocks_fault;
+pub use blocks::{blocks_fault, blocks_faults};
 pub use directory::Directory;
 pub use fault::Fault;
-pub use header::header_fault;
+pub use header::{header_fault, header_faults};
 pub use keys::stored_key;
+pub use lists::{fault_if, list_fault};
 pub use lookup::{code_at, code_near, number_near, number_of};
 pub use places::Place;

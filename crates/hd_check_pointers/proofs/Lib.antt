@@ -8,6 +8,7 @@ pub mod Noting
 pub mod Holders
 pub mod Matching
 pub mod Arranging
+pub mod Unmatched
 pub mod OneEach
 pub mod TwinChains
 pub mod PlaceNumbers
@@ -17,3 +18,5 @@ pub mod KeyOrder
 pub mod TwinPointers
 pub mod LastChildren
 pub mod TwinFaults
+pub mod RecordLists
+pub mod TwinLists

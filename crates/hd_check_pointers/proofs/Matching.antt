@@ -25,12 +25,12 @@ AreInOrder [] = Unit {0}
 AreInOrder (n ∷ ns) = EachNaming (λ x. n.target ≤ x.target) ns × AreInOrder ns
 
 -- what follows from something holds where that does
-each-weak : (P Q : Naming → Type 0) (ns : List Naming) → ((n : Naming) → P n → Q n) → EachNaming P ns → EachNaming Q ns
+pub each-weak : (P Q : Naming → Type 0) (ns : List Naming) → ((n : Naming) → P n → Q n) → EachNaming P ns → EachNaming Q ns
 each-weak P Q [] w h = tt
 each-weak P Q (n ∷ ns) w h = (w n h.0, each-weak P Q ns w h.1)
 
 -- and what follows from two things
-each-two : (P Q R : Naming → Type 0) (ns : List Naming) → ((n : Naming) → P n → Q n → R n) → EachNaming P ns → EachNaming Q ns → EachNaming R ns
+pub each-two : (P Q R : Naming → Type 0) (ns : List Naming) → ((n : Naming) → P n → Q n → R n) → EachNaming P ns → EachNaming Q ns → EachNaming R ns
 each-two P Q R [] w h g = tt
 each-two P Q R (n ∷ ns) w h g = (w n h.0 g.0, each-two P Q R ns w h.1 g.1)
 
@@ -141,7 +141,7 @@ pub record AreNamingsOf (F : ℕ → List ℕ) (ps : List Place) (ns : List Nami
   pub same : (a : ℕ) → IsAddress a ps → F a ≡ holders a ns
 
 -- a second pointer names the address, or all others name what is behind it
-second-cases : (a : ℕ) (ns : List Naming) → AreInOrder ns → EachNaming (λ n. a ≤ n.target) ns
+pub second-cases : (a : ℕ) (ns : List Naming) → AreInOrder ns → EachNaming (λ n. a ≤ n.target) ns
     → ((n : Naming) × (ms : List Naming) × (ns ≡ n ∷ ms) × (n.target ≡ a)) ⊎ ((second_fault a ns ≡ None) × EachNaming (λ n. a < n.target) ns)
 second-cases a [] order least = inr (refl, tt)
 second-cases a (n ∷ ns) order least = elim (cases_eq n.target a) [

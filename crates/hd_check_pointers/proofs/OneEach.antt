@@ -9,6 +9,7 @@ use Rattle.hd_links.specs.Links.{Links, IsSegment}
 use Rattle.hd_links.specs.Pointers.{PointsTo, PointersAreTyped, Precedes, PredecessorsAreOne}
 use Rattle.hd_links.proofs.Types.{AllAbove, ordered}
 use Rattle.hd_image.specs.Records.{links_of, IsVolumeOf}
+use Rattle.hd_image.specs.PointerFaults.{HasTwoPredecessors, HasNoPredecessor}
 use Rattle.hd_image.specs.Standing.{Stands, phase_of, number_of, ComesBefore}
 use Rattle.hd_image.specs.declared.line.Line.{Line}
 use Rattle.hd_image.specs.declared.line.Line.TheVariants.{NoVolume, NoVersion, AnotherDatabase, WrongChain, WrongPlace, NoKind, Deleted, NamesNothing, NamesAnother, TwoPredecessors, NoPredecessor, WrongBackward, WrongLast, OutOfOrder, NotReached, WrongTop, WrongForm, NamedTwice, UnreachedBlock, WrongNext, EntryOutOfOrder, WrongEntry, NoEntry}
@@ -17,12 +18,16 @@ use Rattle.hd_check_blocks.specs.declared.fault.Fault.{Fault}
 use Rattle.hd_check_blocks.specs.declared.places.Place.{Place}
 use Rattle.hd_check_pointers.specs.declared.namings.Naming.{Naming}
 use Rattle.hd_check_blocks.specs.Phases.{IsLeastOf}
+use Rattle.hd_check_blocks.specs.Listing.{IsListed, AreStanding, faults_of}
+use Rattle.hd_check_blocks.proofs.Listing.{AreStandingAmong, joined, none-among, all-standing}
 use Rattle.hd_check_blocks.specs.Places.{IsPlaceOf, ArePlaces, PlacesAscend}
 use Rattle.hd_check_pointers.specs.Tables.{place_at, naming_at, ArePredecessors}
-use Rattle.hd_check_pointers.specs.Namings.{AreNamings, first_unmatched, holders, NameTheirPlaces, HaveSameHolders}
+use Rattle.hd_check_pointers.specs.Namings.{AreNamings, match_fault, first_unmatched, holders, NameTheirPlaces, HaveSameHolders}
+use Rattle.hd_check_pointers.specs.Listed.{behind, all_unmatched}
 use Rattle.hd_check_pointers.proofs.TypedRecords.{before-it}
 use Rattle.hd_check_pointers.proofs.Holders.{IsAmong, AreHolders, are-holders, none-zero}
 use Rattle.hd_check_pointers.proofs.Arranging.{names-match}
+use Rattle.hd_check_pointers.proofs.Unmatched.{wrong_for, first-found, behind-match}
 use Rattle.hd_check_pointers.proofs.Matching.{IsAddress, address-from, AreMatched, IsWrongFor, IsFirstWrong, IsJudged, AreNamingsOf, each-held, order-from-sort, holders-sorted, judged}
 
 -- ---- places and addresses
@@ -221,38 +226,71 @@ module _ (d : Database) (v : VolumeState) (of : IsVolumeOf d v) (ps : List Place
         | inr both ↦ none k (let n = both.1 in let e : number_of k a ≡ number_of k w.address = ap (number_of k) both.0 in omega arith) (subst (IsUnmatchedAs d.types (links_of d.types v) k) both.0 u.1)
       ]
 
+  -- a segment without holder has no predecessor
+  none-stands : (a : ℕ) → IsAddress a ps → holders a old ≡ [] → HasNoPredecessor d.types (links_of d.types v) a 0
+  none-stands a i is = (segment-there a i, λ h before. subst (IsAmong h) is ((held a (address-some a i)).all h before), refl)
+
+  -- the second of several holders is the second predecessor
+  two-stand : (a h g : ℕ) (hs : List ℕ) → IsAddress a ps → holders a old ≡ h ∷ g ∷ hs → HasTwoPredecessors d.types (links_of d.types v) a g
+  two-stand a h g hs i is =
+      let all : AreHolders d.types (links_of d.types v) a (h ∷ g ∷ hs) = subst (AreHolders d.types (links_of d.types v) a) is (held a (address-some a i)) in (
+        h,
+        segment-there a i,
+        all.precede h (inl refl),
+        all.precede g (inr (inl refl)),
+        all.rises.0.0,
+        λ x before less. elim (all.all x before) [
+          | inl e ↦ e
+          | inr (inl e) ↦ absurd (omega arith)
+          | inr (inr j) ↦ absurd (let far = above-among g x hs all.rises.1.0 j in omega arith)
+        ],
+      )
+
   -- what is wrong with the first wrong address is the least fault
   first-least : (f : Fault) (w : IsFirstAt (λ a. holders a old) ps f) (hs : List ℕ) → holders w.address old ≡ hs → IsWrongFor w.address hs f → IsLeastOf d v 4 f
   first-least f w [] is wrong =
-      let a : ℕ = w.address in
-      let some : a ≢ 0 = address-some a w.there in
-      let none : (h : ℕ) → Precedes d.types (links_of d.types v) h a → ⊥ = (λ h before. subst (IsAmong h) is ((held a some).all h before)) in
       subst (IsLeastOf d v 4) (sym wrong) (record {
         of = refl;
-        stands = (segment-there a w.there, none, refl);
-        least = nothing-before f w NoPredecessor refl (λ k less x. elim x [ inl y ↦ none y.1.0 y.1.2 | inr y ↦ (let n = y.0 in omega arith) ]);
+        stands = none-stands w.address w.there is;
+        least = nothing-before f w NoPredecessor refl (λ k less x. elim x [ inl y ↦ (none-stands w.address w.there is).1 y.1.0 y.1.2 | inr y ↦ (let n = y.0 in omega arith) ]);
       })
   first-least f w (h ∷ []) is wrong = absurd wrong
   first-least f w (h ∷ g ∷ hs) is wrong =
-      let a : ℕ = w.address in
-      let some : a ≢ 0 = address-some a w.there in
-      let all : AreHolders d.types (links_of d.types v) a (h ∷ g ∷ hs) = subst (AreHolders d.types (links_of d.types v) a) is (held a some) in
       subst (IsLeastOf d v 4) (sym wrong) (record {
         of = refl;
-        stands = (
-          h,
-          segment-there a w.there,
-          all.precede h (inl refl),
-          all.precede g (inr (inl refl)),
-          all.rises.0.0,
-          λ x before less. elim (all.all x before) [
-            | inl e ↦ e
-            | inr (inl e) ↦ absurd (omega arith)
-            | inr (inr i) ↦ (let far = above-among g x hs all.rises.1.0 i in absurd (omega arith))
-          ],
-        );
+        stands = two-stand w.address h g hs w.there is;
         least = nothing-before f w TwoPredecessors refl (λ k less x. elim x [ inl y ↦ (let n = y.0 in omega arith) | inr y ↦ (let n = y.0 in omega arith) ]);
       })
+
+  -- all that stands of the phase at a segment, by its holders
+  wrong-standing : (a : ℕ) (hs : List ℕ) → IsAddress a ps → holders a old ≡ hs → AreStandingAmong d v 4 (λ k b. b ≡ a) (wrong_for a hs)
+  wrong-standing a [] i is = record {
+    stand = (refl, none-stands a i is, tt);
+    among = (refl, tt);
+    all = λ k b o of at s. fourth-lines (λ x. Stands d v x b o → IsListed x b (wrong_for a []))
+        (λ two. absurd ((none-stands a i is).1 two.0 (subst (Precedes d.types (links_of d.types v) two.0) at two.2)))
+        (λ no. inl (refl, sym at)) k of s;
+    ascend = (tt, tt);
+  }
+  wrong-standing a (h ∷ []) i is = none-among d v 4 (λ k b. b ≡ a) (λ k b o of s at. one-matched k a h (address-some a i) is (subst (IsUnmatchedAs d.types (links_of d.types v) k) at (unmatched-as d v k b o of s).1))
+  wrong-standing a (h ∷ g ∷ hs) i is = record {
+    stand = (refl, two-stand a h g hs i is, tt);
+    among = (refl, tt);
+    all = λ k b o of at s. fourth-lines (λ x. Stands d v x b o → IsListed x b (wrong_for a (h ∷ g ∷ hs)))
+        (λ two. inl (refl, sym at))
+        (λ no. absurd (let t = two-stand a h g hs i is in no.1 t.0 (subst (Precedes d.types (links_of d.types v) t.0) (sym at) t.2))) k of s;
+    ascend = (tt, tt);
+  }
+
+  -- all that stands of it at some of the places
+  unmatched-among : (qs : List Place) (ns : List Naming) → ((a : ℕ) → IsAddress a qs → IsAddress a ps) → AreNamingsOf (λ a. holders a old) qs ns
+      → AreStandingAmong d v 4 (λ k a. IsAddress a qs) (all_unmatched qs ns)
+  unmatched-among [] ns in-ps is = none-among d v 4 (λ k a. IsAddress a []) (λ k a o of s i. i)
+  unmatched-among (q ∷ qs) ns in-ps is =
+      joined d v 4 (λ k a. a ≡ q.address) (λ k a. IsAddress a qs) (faults_of (match_fault q.address ns)) (all_unmatched qs (behind q.address ns))
+      (λ k a l b p at r i. inl (let far = address-from (q.address + 1) b qs is.ascend.0 i in omega arith))
+      (subst (AreStandingAmong d v 4 (λ k a. a ≡ q.address)) (sym (first-found (λ a. holders a old) q qs ns is)) (wrong-standing q.address (holders q.address old) (in-ps q.address (inl refl)) refl))
+      (unmatched-among qs (behind q.address ns) (λ a i. in-ps a (inr i)) (behind-match (λ a. holders a old) q qs ns is))
 
   -- a table in which each pointer names the place of its number is matched with the places
   module _ (new : List Naming) (names : NameTheirPlaces ps new) (same : HaveSameHolders ps old new) where
@@ -290,3 +328,8 @@ module _ (d : Database) (v : VolumeState) (of : IsVolumeOf d v) (ps : List Place
     -- what is found is the least fault
     pub unmatched-least : IfSome (first_unmatched ps new) (λ f. IsLeastOf d v 4 f)
     unmatched-least = by-some (first_unmatched ps new) (judged (λ a. holders a old) ps new (can-match new sorted stable))
+
+    -- all that is listed is all that stands
+    pub unmatched-standing : AreStanding d v 4 (all_unmatched ps new)
+    unmatched-standing = all-standing d v 4 (λ k a. IsAddress a ps) (all_unmatched ps new) (λ k a o of s. address-there a (unmatched-as d v k a o of s).0)
+        (unmatched-among ps new (λ a i. i) (can-match new sorted stable))

@@ -105,17 +105,17 @@ module _ (d : Database) (v : VolumeState) where
   right-last a o r w = right-not-wrong (links_of d.types v) a w.0 (r.lasts w.0 w.2 w.3) w.4
 
   -- a line of the phase
-  fifth-lines : (P : Line → Type 0) → P WrongBackward → P WrongLast → (k : Line) → phase_of k ≡ 5 → P k
+  pub fifth-lines : (P : Line → Type 0) → P WrongBackward → P WrongLast → (k : Line) → phase_of k ≡ 5 → P k
   fifth-lines P a b WrongBackward h = a
   fifth-lines P a b WrongLast h = b
   fifth-lines P a b k h = absurd (omega arith)
 
   -- what stands in the phase stands at no record that is right
-  right-none : (k : Line) (a o : ℕ) → phase_of k ≡ 5 → AreTwinsRight d.types (links_of d.types v) a → Stands d v k a o → ⊥
+  pub right-none : (k : Line) (a o : ℕ) → phase_of k ≡ 5 → AreTwinsRight d.types (links_of d.types v) a → Stands d v k a o → ⊥
   right-none k a o five r = fifth-lines (λ x. Stands d v x a o → ⊥) (right-backward a o r) (right-last a o r) k five
 
   -- and at a record that is there
-  there : (k : Line) (a o : ℕ) → phase_of k ≡ 5 → Stands d v k a o → (links_of d.types v).here a ≡ true
+  pub there : (k : Line) (a o : ℕ) → phase_of k ≡ 5 → Stands d v k a o → (links_of d.types v).here a ≡ true
   there k a o five = fifth-lines (λ x. Stands d v x a o → (links_of d.types v).here a ≡ true) (λ w. w.0.here) (λ w. w.1) k five
 
   -- what comes before a fault at h stands before h, or at h with a lesser number

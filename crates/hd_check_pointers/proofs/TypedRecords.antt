@@ -26,15 +26,15 @@ abbrev pub SkipsZero : (Named → Bool) → Type 0
 SkipsZero test = (p : Named) → test p ≡ true → p.address ≢ 0
 
 -- a pointer of 0 does not name nothing
-none-skips : (m : Links) → SkipsZero (λ p. names_none m p)
+pub none-skips : (m : Links) → SkipsZero (λ p. names_none m p)
 none-skips m p h = λ z. false≢true (sym (let e : names_none m p ≡ false = rw (eq-eqb p.address 0 z) refl in e) ∙ h)
 
 -- nor another type
-another-skips : (m : Links) → SkipsZero (λ p. names_another m p)
+pub another-skips : (m : Links) → SkipsZero (λ p. names_another m p)
 another-skips m p h = λ z. false≢true (sym (let e : names_another m p ≡ false = rw (eq-eqb p.address 0 z) refl in e) ∙ h)
 
 -- what is found first is the first wrong one
-found-first : (test : Named → Bool) (ps : List Named) (x : ℕ) → SkipsZero test → option_map (λ p. p.address) (find test ps) ≡ Some x → (first_wrong test ps ≡ x) × (x ≢ 0)
+pub found-first : (test : Named → Bool) (ps : List Named) (x : ℕ) → SkipsZero test → option_map (λ p. p.address) (find test ps) ≡ Some x → (first_wrong test ps ≡ x) × (x ≢ 0)
 found-first test [] x skips h = cc
 found-first test (p ∷ ps) x skips h = elim (cases_Bool (test p)) [
   | inl is ↦
@@ -47,7 +47,7 @@ found-first test (p ∷ ps) x skips h = elim (cases_Bool (test p)) [
 ]
 
 -- and the first wrong one is found
-first-found : (test : Named → Bool) (ps : List Named) → SkipsZero test → first_wrong test ps ≢ 0 → option_map (λ p. p.address) (find test ps) ≡ Some (first_wrong test ps)
+pub first-found : (test : Named → Bool) (ps : List Named) → SkipsZero test → first_wrong test ps ≢ 0 → option_map (λ p. p.address) (find test ps) ≡ Some (first_wrong test ps)
 first-found test [] skips some = absurd (some refl)
 first-found test (p ∷ ps) skips some = elim (cases_Bool (test p)) [
   | inl is ↦ (let n : p.address ≢ 0 = skips p is in rw (is, ne_eqb p.address 0 n) refl)

@@ -4,3 +4,4 @@ pub mod Namings
 pub mod Matched
 pub mod Keys
 pub mod Twins
+pub mod Listed

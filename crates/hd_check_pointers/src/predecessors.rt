@@ -1,17 +1,19 @@
 //! Phase 4: each segment has one predecessor.
-ghost use Rattle.std.specs.Prelude.{◌≡◌, drop, length, replicate, true, IfOk, IfNone, IfSome, OnOk};
+ghost use Rattle.std.specs.Prelude.{◌≡◌, ◌++◌, List, drop, length, replicate, true, IfOk, IfNone, IfSome, OnOk};
 ghost use Rattle.std.specs.Ordering.{nat_cmp};
 ghost use Rattle.std.specs.List.Sorted.{IsNonDecreasingBy, IsStableByKey};
 ghost use Rattle.hd_dbd.specs.Refusals.{OnlyMemory};
 ghost use Rattle.hd_links.specs.Pointers.{PredecessorsAreOne};
 ghost use Rattle.hd_image.specs.Records.{links_of};
 ghost use Rattle.hd_check_blocks.specs.Phases.{IsLeastOf};
+ghost use Rattle.hd_check_blocks.specs.Listing.{AreStanding};
 ghost use Rattle.hd_check_pointers.specs.Tables.{ArePredecessors};
 ghost use Rattle.hd_check_pointers.specs.Namings.{match_fault, first_unmatched, NameTheirPlaces, HaveSameHolders};
+ghost use Rattle.hd_check_pointers.specs.Listed.{behind, all_unmatched, AreSorted};
 ghost use Rattle.hd_check_pointers.specs.Matched.{OfNamed};
 
 use crate::namings::Naming;
-use hd_check_blocks::{Directory, Fault, Place, number_near};
+use hd_check_blocks::{Directory, Fault, Place, list_fault, number_near};
 use hd_dbd::Refused;
 use hd_image::Line;
 use std::alloc::Global;
@@ -42,6 +44,35 @@ fn first_unmatched(places: &[Place], namings: &[Naming]) -> Option<Fault>
         }
     }
     None
+}
+
+/// The number of the first pointer behind those that name an address, from a number on.
+fn behind(namings: &[Naming], first: usize, address: u32) -> usize
+    ensures { drop result namings.now ≡ behind address (drop first namings.now) }
+{
+    for i in first..namings.len() {
+        if namings[i].target != address {
+            return i;
+        }
+    }
+    namings.len()
+}
+
+/// Lists what is wrong with the predecessors of the segments at these places, where the pointers are in order of what they name.
+fn list_unmatched(
+    faults: &mut Vec<Fault>,
+    places: &[Place],
+    namings: &[Naming],
+) -> Result<(), Refused>
+    ensures faults { OnOk result (faults.new.items ≡ faults.old.items ++ all_unmatched places.now namings.now) }
+    ensures refusal { OnlyMemory result }
+{
+    let mut i = 0;
+    for place in places {
+        list_fault(faults, match_fault(namings, i, place.address))?;
+        i = behind(namings, i, place.address);
+    }
+    Ok(())
 }
 
 /// Puts pointers in order of what they name; those that name the same stay in order.
@@ -124,6 +155,7 @@ pub fn predecessors_fault(
     ensures none { OfNamed places.now namings.old.items (λ d v. IfOk result (λ o. IfNone o (PredecessorsAreOne d.types (links_of d.types v)))) }
     ensures table { OfNamed places.now namings.old.items (λ d v. IfOk result (λ o. IfNone o (ArePredecessors d.types (links_of d.types v) places.now namings.new.items))) }
     ensures some { OfNamed places.now namings.old.items (λ d v. IfOk result (λ o. IfSome o (λ f. IsLeastOf d v 4 f))) }
+    ensures sorted { IfOk result (λ o. IfSome o (λ f. AreSorted namings.old.items namings.new.items)) }
     ensures refusal { OnlyMemory result }
 {
     if let Some(arranged) = arrange(alloc, namings, places, directory)? {
@@ -132,4 +164,18 @@ pub fn predecessors_fault(
     }
     sort_namings(namings)?;
     Ok(first_unmatched(places, namings))
+}
+
+/// All that is wrong with the predecessors of the segments, where the pointers are in order of what they name.
+pub fn predecessors_faults(
+    alloc: Global,
+    places: &[Place],
+    namings: &[Naming],
+) -> Result<Vec<Fault>, Refused>
+    ensures faults { (old : List Naming) → AreSorted old namings.now → OfNamed places.now old (λ d v. IfOk result (λ faults. AreStanding d v 4 faults.items)) }
+    ensures refusal { OnlyMemory result }
+{
+    let mut faults = Vec::new(alloc);
+    list_unmatched(&mut faults, places, namings)?;
+    Ok(faults)
 }

@@ -1,5 +1,6 @@
 //! Phase 3: the pointers of one record.
-ghost use Rattle.std.specs.Prelude.{◌≡◌, ◌≢◌, ◌≤◌, ◌<◌, [], ◌∷◌, length, IfNone, IfSome};
+ghost use Rattle.std.specs.Prelude.{◌≡◌, ◌≢◌, ◌≤◌, ◌<◌, ◌++◌, [], ◌∷◌, length, IfNone, IfSome, OnOk};
+ghost use Rattle.hd_dbd.specs.Refusals.{OnlyMemory};
 ghost use Rattle.hd_dbd.specs.Prefixes.{prefix_length};
 ghost use Rattle.hd_volume.specs.Volumes.{VolumeState};
 ghost use Rattle.hd_prefix.specs.Fields.{code_of};
@@ -8,10 +9,11 @@ ghost use Rattle.hd_dbd.specs.Hierarchy.{Database};
 ghost use Rattle.hd_image.specs.PointerFaults.{child_pointers, pointers_of};
 ghost use Rattle.hd_check_blocks.specs.Places.{ArePlaces};
 ghost use Rattle.hd_check_pointers.specs.Judging.{wrong_among, wrong_or, IsRecordRight, IsWrongRecord, IsPointerFault, OfStored, OfPlaced};
+ghost use Rattle.hd_check_pointers.specs.Listed.{pointer_faults, record_faults};
 ghost use Rattle.hd_check_pointers.specs.Matched.{IfRoots};
 
-use hd_check_blocks::{Directory, Fault, Place, code_near};
-use hd_dbd::Dbd;
+use hd_check_blocks::{Directory, Fault, Place, code_near, fault_if, list_fault};
+use hd_dbd::{Dbd, Refused};
 use hd_image::Line;
 use hd_prefix::{Layout, Pointer, delete_byte_of};
 
@@ -173,6 +175,16 @@ fn pointer_fault(address: u32, wrong: Wrong) -> Option<Fault>
     None
 }
 
+/// What is wrong with the header's pointers, which are first and last root.
+fn judge_roots(places: &[Place], directory: &Directory, first: u32, last: u32) -> Wrong
+    ensures { (d : Database) (v : VolumeState) → ArePlaces d.types v places.now → IfRoots v first last (result ≡ wrong_among (links_of d.types v) (pointers_of d.types (links_of d.types v) 0)) }
+{
+    wrong_or(
+        wrong_of(places, directory, 0, first, 1),
+        wrong_of(places, directory, 0, last, 1),
+    )
+}
+
 /// What is wrong with the header's first and last root.
 pub fn root_pointers_fault(
     places: &[Place],
@@ -183,11 +195,57 @@ pub fn root_pointers_fault(
     ensures none { (d : Database) (v : VolumeState) → ArePlaces d.types v places.now → IfRoots v first last (IfNone result (IsRecordRight d.types (links_of d.types v) 0)) }
     ensures some { (d : Database) (v : VolumeState) → ArePlaces d.types v places.now → IfRoots v first last (IfSome result (λ f. IsWrongRecord d.types (links_of d.types v) 0 f)) }
 {
-    pointer_fault(
-        0,
-        wrong_or(
-            wrong_of(places, directory, 0, first, 1),
-            wrong_of(places, directory, 0, last, 1),
-        ),
+    pointer_fault(0, judge_roots(places, directory, first, last))
+}
+
+/// Lists the faults of a record with which so much is wrong.
+fn list_pointers(faults: &mut Vec<Fault>, address: u32, wrong: Wrong) -> Result<(), Refused>
+    ensures faults { OnOk result (faults.new.items ≡ faults.old.items ++ pointer_faults address wrong) }
+    ensures refusal { OnlyMemory result }
+{
+    list_fault(faults, fault_if(Line::NamesNothing, address, wrong.nowhere))?;
+    list_fault(faults, fault_if(Line::NamesAnother, address, wrong.another))
+}
+
+/// Lists what is wrong with the segment of a number, which stands at an address.
+pub fn list_segment(
+    faults: &mut Vec<Fault>,
+    places: &[Place],
+    directory: &Directory,
+    number: usize,
+    dbd: &Dbd,
+    address: u32,
+    segment: &[u8],
+) -> Result<(), Refused>
+    ensures faults { OnOk result (OfPlaced dbd.now.types places.now address segment.now (λ m. faults.new.items ≡ faults.old.items ++ record_faults dbd.now.types m address)) }
+    ensures refusal { OnlyMemory result }
+{
+    let code = segment.first().copied().unwrap_or(0);
+    if code == 0 || segment.len() < 2 || segment.len() < dbd.prefix_length(code) as usize {
+        return Ok(());
+    }
+    let delete_byte = delete_byte_of(segment);
+    list_fault(
+        faults,
+        fault_if(Line::Deleted, address, u32::from(delete_byte)),
+    )?;
+    list_pointers(
+        faults,
+        address,
+        judge_segment(places, directory, number, dbd, code, segment),
     )
+}
+
+/// Lists what is wrong with the header's first and last root.
+pub fn list_roots(
+    faults: &mut Vec<Fault>,
+    places: &[Place],
+    directory: &Directory,
+    first: u32,
+    last: u32,
+) -> Result<(), Refused>
+    ensures faults { OnOk result ((d : Database) (v : VolumeState) → ArePlaces d.types v places.now → IfRoots v first last (faults.new.items ≡ faults.old.items ++ record_faults d.types (links_of d.types v) 0)) }
+    ensures refusal { OnlyMemory result }
+{
+    list_pointers(faults, 0, judge_roots(places, directory, first, last))
 }

@@ -1,6 +1,6 @@
 //! Phase 6: the keys of twins are in order.
-ghost use Rattle.std.specs.Prelude.{◌≡◌, ◌≤◌, ◌<◌, length, take, true, IsTrue, IfOk, OnOk};
-ghost use Rattle.hd_dbd.specs.Refusals.{OnlyDevice};
+ghost use Rattle.std.specs.Prelude.{◌≡◌, ◌≤◌, ◌<◌, length, take, true, IsTrue, IfOk, IfNone, IfSome, OnOk};
+ghost use Rattle.hd_dbd.specs.Refusals.{OnlyDevice, OnlyDeviceOrMemory};
 ghost use Rattle.hd_dbd.specs.Rows.{key_of, twins_in_order};
 ghost use Rattle.hd_volume.specs.Calls.{IsRead};
 ghost use Rattle.hd_links.specs.Links.{IsSegment, segment_at};
@@ -8,6 +8,7 @@ ghost use Rattle.hd_links.specs.Pointers.{Precedes, KeysAscend};
 ghost use Rattle.hd_image.specs.Records.{links_of, IsVolumeOf};
 ghost use Rattle.hd_image.specs.PointerFaults.{IsOutOfOrder};
 ghost use Rattle.hd_check_blocks.specs.Phases.{IsLeastOf};
+ghost use Rattle.hd_check_blocks.specs.Listing.{AreStanding};
 ghost use Rattle.hd_check_pointers.specs.Tables.{place_at, ArePredecessors};
 ghost use Rattle.hd_check_pointers.specs.Matched.{IsMatched};
 ghost use Rattle.hd_check_pointers.specs.Keys.{is_keyed, IsLastKey, is_behind, IsKeyRight, order_fault, IsOrderFault, IsKeyWrong};
@@ -16,11 +17,12 @@ ghost use Rattle.hd_check_blocks.specs.Finding.{WhereNone, WhereSome};
 use crate::last_key::{LastKey, keep_key, no_key};
 use crate::namings::Naming;
 use crate::owners::stands_at;
-use hd_check_blocks::{Directory, Fault, Place, stored_key};
+use hd_check_blocks::{Directory, Fault, Place, list_fault, stored_key};
 use hd_dbd::{Dbd, Refused};
 use hd_image::Line;
 use hd_stores::BlockStore;
 use hd_volume::Volume;
+use std::alloc::Global;
 
 /// Whether the segments of a type have a key.
 pub fn is_keyed(dbd: &Dbd, code: u8) -> bool
@@ -160,4 +162,47 @@ pub fn twin_keys_fault<S: BlockStore>(
         }
     }
     Ok(None)
+}
+
+/// Where a fault is found the key that was read last is not known.
+fn forget_where_some(last: &mut LastKey, found: Option<Fault>)
+    ensures none { IfNone found (last.new ≡ last.old) }
+    ensures some { IfSome found (λ f. last.new.address ≡ 0) }
+{
+    if found.is_some() {
+        last.address = 0;
+    }
+}
+
+/// All twins whose keys are less than those of the twins before them, or equal where they are unique.
+pub fn twin_keys_faults<S: BlockStore>(
+    alloc: Global,
+    places: &[Place],
+    directory: &Directory,
+    namings: &[Naming],
+    volume: &mut Volume<S>,
+    dbd: &Dbd,
+) -> Result<Vec<Fault>, Refused>
+    requires matched { IsTrue volume.old.is_sound → IsMatched dbd.now volume.old places.now }
+    requires predecessors { IsTrue volume.old.is_sound → ArePredecessors dbd.now.types (links_of dbd.now.types volume.old) places.now namings.now }
+    ensures read { IsRead volume.old result volume.new }
+    ensures faults { IfOk result (λ faults. IsTrue volume.old.is_sound → AreStanding dbd.now volume.old 6 faults.items) }
+    ensures refusal { OnlyDeviceOrMemory result }
+{
+    let mut faults = Vec::new(alloc);
+    let mut last = no_key();
+    for number in 0..places.len().min(namings.len()) {
+        let found = key_fault(
+            &mut last,
+            places,
+            directory,
+            volume,
+            dbd,
+            number,
+            namings[number].holder,
+        )?;
+        forget_where_some(&mut last, found);
+        list_fault(&mut faults, found)?;
+    }
+    Ok(faults)
 }

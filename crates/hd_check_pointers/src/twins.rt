@@ -1,6 +1,6 @@
 //! Phase 5: twin backward, last child and last root.
-ghost use Rattle.std.specs.Prelude.{◌≡◌, ◌≤◌, ◌<◌, length, true, false, IsTrue, IfNone, IfSome};
-ghost use Rattle.hd_dbd.specs.Refusals.{OnlyDevice};
+ghost use Rattle.std.specs.Prelude.{◌≡◌, ◌≤◌, ◌<◌, length, true, false, IsTrue, IfOk, IfNone, IfSome, OnOk};
+ghost use Rattle.hd_dbd.specs.Refusals.{OnlyMemory, OnlyDevice, OnlyDeviceOrMemory};
 ghost use Rattle.hd_dbd.specs.Hierarchy.{Database};
 ghost use Rattle.hd_dbd.specs.Prefixes.{prefix_length};
 ghost use Rattle.hd_volume.specs.Volumes.{VolumeState};
@@ -11,19 +11,22 @@ ghost use Rattle.hd_links.specs.Pointers.{Precedes, TwinsLinkBack};
 ghost use Rattle.hd_image.specs.Records.{links_of};
 ghost use Rattle.hd_image.specs.PointerFaults.{IsWrongBackward, IsWrongLast, HasWrongLast};
 ghost use Rattle.hd_check_blocks.specs.Phases.{IsLeastOf};
+ghost use Rattle.hd_check_blocks.specs.Listing.{AreStanding};
 ghost use Rattle.hd_check_pointers.specs.Tables.{place_at, AreForwards, ArePredecessors, AreOwners};
 ghost use Rattle.hd_check_pointers.specs.Matched.{IsMatched, IfChained, IfRoots, OfLent, OfLentTwin, TellsTwinBefore, OfChildren, OfChildTwin};
 ghost use Rattle.hd_check_pointers.specs.Twins.{IsBackwardRight, IsLastRight, AreLastsRight, AreTwinsRight, AreTwinsWrong, IsWrongLastNamed};
+ghost use Rattle.hd_check_pointers.specs.Listed.{fault_with, AreTwinsListed};
 ghost use Rattle.hd_check_blocks.specs.Finding.{WhereNone, WhereSome};
 
 use crate::namings::Naming;
 use crate::owners::{number_in, stands_at};
-use hd_check_blocks::{Directory, Fault, Place, number_of};
+use hd_check_blocks::{Directory, Fault, Place, list_fault, number_of};
 use hd_dbd::{Dbd, Refused};
 use hd_image::Line;
 use hd_prefix::{Layout, Pointer};
 use hd_stores::BlockStore;
 use hd_volume::Volume;
+use std::alloc::Global;
 
 /// A pointer of a stored segment of a type.
 fn pointer_in(dbd: &Dbd, code: u8, segment: &[u8], pointer: Pointer) -> u32
@@ -267,4 +270,116 @@ pub fn twins_fault<S: BlockStore>(
         }
     }
     Ok(None)
+}
+
+/// The fault of a line at an address that names something, if it is given what.
+fn fault_with(line: Line, address: u32, other: Option<u32>) -> Option<Fault>
+    ensures { result ≡ fault_with line address other }
+{
+    match other {
+        None => None,
+        Some(other) => Some(Fault::at(line, address, other)),
+    }
+}
+
+/// Lists what is wrong with twin backward and last child of the segment of a number, whose predecessor is given.
+fn list_twin_pointers(
+    faults: &mut Vec<Fault>,
+    places: &[Place],
+    directory: &Directory,
+    forwards: &[u32],
+    owners: &[u32],
+    dbd: &Dbd,
+    number: usize,
+    holder: u32,
+    segment: &[u8],
+) -> Result<(), Refused>
+    requires within { number < length places.now }
+    ensures faults { OnOk result (OfLentTwin dbd.now places.now forwards.now owners.now number segment.now (λ m a. Precedes dbd.now.types m holder a → AreTwinsListed dbd.now.types m a faults.old.items faults.new.items)) }
+    ensures refusal { OnlyMemory result }
+{
+    let place = places[number];
+    if segment.len() < dbd.prefix_length(place.code) as usize {
+        return Ok(());
+    }
+    let backward = wrong_backward(places, directory, dbd, number, holder, segment);
+    let last = wrong_last(places, directory, forwards, owners, dbd, number, segment);
+    list_fault(
+        faults,
+        fault_with(Line::WrongBackward, place.address, backward),
+    )?;
+    list_fault(faults, fault_with(Line::WrongLast, place.address, last))
+}
+
+/// Lists what is wrong with the segment of a number, which is read.
+fn list_twin_links<S: BlockStore>(
+    faults: &mut Vec<Fault>,
+    places: &[Place],
+    directory: &Directory,
+    forwards: &[u32],
+    owners: &[u32],
+    volume: &mut Volume<S>,
+    dbd: &Dbd,
+    number: usize,
+    holder: u32,
+) -> Result<(), Refused>
+    requires within { number < length places.now }
+    requires matched { IsTrue volume.old.is_sound → IsMatched dbd.now volume.old places.now }
+    requires forwards { IsTrue volume.old.is_sound → AreForwards (links_of dbd.now.types volume.old) places.now forwards.now }
+    requires owners { IsTrue volume.old.is_sound → AreOwners dbd.now.types (links_of dbd.now.types volume.old) places.now owners.now }
+    requires precedes { IsTrue volume.old.is_sound → Precedes dbd.now.types (links_of dbd.now.types volume.old) holder (place_at places.now number).address }
+    ensures read { IsRead volume.old result volume.new }
+    ensures faults { OnOk result (IsTrue volume.old.is_sound → AreTwinsListed dbd.now.types (links_of dbd.now.types volume.old) (place_at places.now number).address faults.old.items faults.new.items) }
+    ensures refusal { OnlyDeviceOrMemory result }
+{
+    let segment = volume.segment_at(places[number].address)?;
+    list_twin_pointers(
+        faults, places, directory, forwards, owners, dbd, number, holder, segment,
+    )
+}
+
+/// All that is wrong with twin backward and last child, which must agree with the chains of twins.
+pub fn twins_faults<S: BlockStore>(
+    alloc: Global,
+    places: &[Place],
+    directory: &Directory,
+    namings: &[Naming],
+    owners: &[u32],
+    forwards: &[u32],
+    volume: &mut Volume<S>,
+    dbd: &Dbd,
+) -> Result<Vec<Fault>, Refused>
+    requires matched { IsTrue volume.old.is_sound → IsMatched dbd.now volume.old places.now }
+    requires predecessors { IsTrue volume.old.is_sound → ArePredecessors dbd.now.types (links_of dbd.now.types volume.old) places.now namings.now }
+    requires forwards { IsTrue volume.old.is_sound → AreForwards (links_of dbd.now.types volume.old) places.now forwards.now }
+    requires owners { IsTrue volume.old.is_sound → AreOwners dbd.now.types (links_of dbd.now.types volume.old) places.now owners.now }
+    ensures read { IsRead volume.old result volume.new }
+    ensures faults { IfOk result (λ faults. IsTrue volume.old.is_sound → AreStanding dbd.now volume.old 5 faults.items) }
+    ensures refusal { OnlyDeviceOrMemory result }
+{
+    let mut faults = Vec::new(alloc);
+    let roots = last_root_fault(
+        places,
+        directory,
+        forwards,
+        owners,
+        volume.first_root(),
+        volume.last_root(),
+    );
+    list_fault(&mut faults, roots)?;
+    for number in 0..places.len().min(namings.len()) {
+        let holder = namings[number].holder;
+        list_twin_links(
+            &mut faults,
+            places,
+            directory,
+            forwards,
+            owners,
+            volume,
+            dbd,
+            number,
+            holder,
+        )?;
+    }
+    Ok(faults)
 }
