@@ -1,4 +1,4 @@
--- What a play with commits among its calls comes to, in a cache, in the store below it, and behind a last commit.
+-- What a play with commits among its calls comes to, and behind a last commit.
 use Rattle.std.proofs.Common.{◌≡◌, ◌≤◌, ◌⊎◌, ◌+◌, ℕ, List, [], ◌∷◌, ◌++◌, length, take, Bool, true, false, IsTrue, Result, Ok, Err, Some, Option, refl, inl, inr, sym, ◌∙◌, ap, subst, arith}
 use Rattle.std.specs.Prelude.{OnOk, OnErr, IfOk, IfErr, unwrap_or}
 use Rattle.std.proofs.lemmas.List.{append-nil, length-append, take_at}
@@ -24,7 +24,7 @@ use Rattle.hd_commands.specs.declared.ended.Ended.{Ended}
 use Rattle.hd_commands.specs.declared.refusal.Refusal.{Refusal}
 use Rattle.hd_commands.specs.declared.refusal.Refusal.TheVariants.{Fault, Old, NotEmpty, Device, Memory}
 use Rattle.hd_commands.specs.Refusals.{of_run}
-use Rattle.hd_commands.specs.Units.{IsWritten, MayCommit, unit_requests, UnitCommits}
+use Rattle.hd_commands.specs.Units.{MayCommit, unit_requests, UnitCommits}
 use Rattle.hd_commands.specs.Plays.{PlaySays, FailsOrStays}
 use Rattle.hd_commands.proofs.Commits.{committed_done, committed_log}
 
@@ -103,89 +103,19 @@ same-refusal named r s is also = ap (λ (o : Option Refusal). unwrap_or o r) (sy
 pub if-err : {A B : Type 0} (P : B → Type 0) (result : Result A B) (e : B) → result ≡ Err e → IfErr result P → P e
 if-err P result e is holds = subst (λ r. IfErr r P) is holds
 
--- ---- from a cache to the store below
-
--- what is so of each Ok, is so of an Ok; what is so of each Err, of an Err
-pub if-ok-on : {A B F : Type 0} (P Q : A → Type 0) (result : Result A B) → (F → (x : A) → P x → Q x) → OnOk result F → IfOk result P → IfOk result Q
-if-ok-on P Q (Ok x) more fact is = more fact x is
-if-ok-on P Q (Err e) more fact is = tt
-
-pub if-err-on : {A B : Type 0} (P Q : B → Type 0) (result : Result A B) → ((e : B) → P e → Q e) → IfErr result P → IfErr result Q
-if-err-on P Q (Ok x) more is = tt
-if-err-on P Q (Err e) more is = more e is
-
 -- where no access failed the store is as sound as it was
 pub stays-sound : {S : Type 0} (is_sound : S → Bool) (failures : S → ℕ) (old new : S) → FailsOrStays is_sound failures old new → failures new ≡ failures old → is_sound new ≡ is_sound old
 stays-sound is_sound failures old new (inl stays) none = stays.0
 stays-sound is_sound failures old new (inr fails) none = absurd (omega (arith, none, fails.0))
 
-abbrev stored : List ℕ → Committed → Stored
-stored bytes committed = record { bytes = bytes; committed = committed }
-
-stored-as : (a b : List ℕ) (c e : Committed) → a ≡ b → c ≡ e → stored a c ≡ stored b e
-stored-as a b c e same last = subst (λ (bytes : List ℕ). stored a c ≡ stored bytes e) same (ap (λ (k : Committed). stored a k) last)
-
-module _ {S T : Type 0} (is_sound : S → Bool) (failures : S → ℕ) (contents : S → List ℕ) (committed : S → Committed) (is_sound' : T → Bool) (failures' : T → ℕ) (contents' : T → List ℕ) (committed' : T → Committed)
-    (d : Database) (pcbs : List View) (requests : List Request) (old new : S) (old' new' : T) (sound : is_sound' old' ≡ is_sound old) (bytes : IsTrue (is_sound' old') → contents' old' ≡ contents old)
-    (was : committed' old' ≡ committed old) (then : committed' new' ≡ committed new) where
-  before : IsTrue (is_sound' old') → stored_in contents committed old ≡ stored_in contents' committed' old'
-  before now = stored-as (contents old) (contents' old') (committed old) (committed' old') (sym (bytes now)) (sym was)
-
-  behind : contents' new' ≡ contents new → stored_in contents committed new ≡ stored_in contents' committed' new'
-  behind same = stored-as (contents new) (contents' new') (committed new) (committed' new') (sym same) (sym then)
-
-  -- a run
-  pub run-on : (first last : Option (List ℕ)) (lacking : ℕ) (result : Result Unit Refused) → IsWritten result (is_sound new) (failures new) (contents new) (is_sound' new') (failures' new') (contents' new')
-      → FailsOrStays is_sound failures old new → failures new ≡ failures old
-      → (IsTrue (is_sound old) → IsRunDone d pcbs (stored_in contents committed old) requests first last lacking (stored_in contents committed new))
-      → OnOk result (IsTrue (is_sound' old') → IsRunDone d pcbs (stored_in contents' committed' old') requests first last lacking (stored_in contents' committed' new'))
-  run-on first last lacking (Ok x) w (inl stays) none done = λ now.
-      let then_sound : IsTrue (is_sound old) = subst IsTrue sound now in
-      subst (λ (s : Stored). IsRunDone d pcbs s requests first last lacking (stored_in contents' committed' new')) (before now)
-      (subst (λ (s : Stored). IsRunDone d pcbs (stored_in contents committed old) requests first last lacking s) (behind (w.contents_kept (subst IsTrue (sym stays.0) then_sound))) (done then_sound))
-  run-on first last lacking (Ok x) w (inr fails) none done = absurd (omega (arith, none, fails.0))
-  run-on first last lacking (Err e) w accesses none done = tt
-
-  -- what a failed write left
-  pub part-on : {P : Type 0} (result : Result Unit Refused) → IsWritten result (is_sound new) (failures new) (contents new) (is_sound' new') (failures' new') (contents' new')
-      → (P → IsTrue (is_sound old) → IsTrue (is_sound new) → IsDoneInPart d pcbs (stored_in contents committed old) requests (stored_in contents committed new))
-      → OnOk result (P → IsTrue (is_sound' old') → IsTrue (is_sound' new') → IsDoneInPart d pcbs (stored_in contents' committed' old') requests (stored_in contents' committed' new'))
-  part-on (Ok x) w part = λ p now still.
-      let new_sound : IsTrue (is_sound new) = subst IsTrue w.sound still in
-      subst (λ (s : Stored). IsDoneInPart d pcbs s requests (stored_in contents' committed' new')) (before now)
-      (subst (λ (s : Stored). IsDoneInPart d pcbs (stored_in contents committed old) requests s) (behind (w.contents_kept new_sound)) (part p (subst IsTrue sound now) new_sound))
-  part-on (Err e) w part = tt
-
-  -- what was added to the commits
-  pub commits-on : (IsTrue (is_sound old) → (committed new ≡ committed old) ⊎ IsBrokenInPart d pcbs (stored_in contents committed old) requests (stored_in contents committed new))
-      → IsTrue (is_sound' old') → (committed' new' ≡ committed' old') ⊎ IsBrokenInPart d pcbs (stored_in contents' committed' old') requests (stored_in contents' committed' new')
-  commits-on adds now = by (adds (subst IsTrue sound now))
-    where
-      by : (committed new ≡ committed old) ⊎ IsBrokenInPart d pcbs (stored_in contents committed old) requests (stored_in contents committed new)
-          → (committed' new' ≡ committed' old') ⊎ IsBrokenInPart d pcbs (stored_in contents' committed' old') requests (stored_in contents' committed' new')
-      by (inl same) = inl (then ∙ (same ∙ sym was))
-      by (inr part) = inr (subst (λ (s : Stored). IsBrokenInPart d pcbs s requests (stored_in contents' committed' new')) (before now) (record {
-        first = part.first;
-        rest = part.rest;
-        parts = part.parts;
-        done = record {
-          last = part.done.last;
-          done = part.done.done;
-          fails = subst (λ (c : Committed). FailsCommit true part.done.last.bytes part.done.last.committed c) (sym then) part.done.fails;
-        };
-      }))
-
 -- ---- the last commit
 
 -- where a commit is wanted behind a play, the first of the requests were carried out, and what they left is there
-pub wanted-part : (d : Database) (pcbs : List View) (store mid : Stored) (requests : List Request) (played : Result ℕ Ended) (written : Result Unit Refused) (first last : Option (List ℕ)) (sound sound' : Bool)
-    → IsTrue sound → IsTrue sound' → IfErr played (λ e. e.refusal ≡ Some Device) → OnErr written ⊥
-    → IfOk played (λ memory. OnOk written (IsTrue sound → IsRunDone d pcbs store requests first last memory mid))
-    → IfErr played (λ e. OnOk written (e.refusal ≡ Some Device → IsTrue sound → IsTrue sound' → IsDoneInPart d pcbs store requests mid)) → IsDoneInPart d pcbs store requests mid
-wanted-part d pcbs store mid requests (Ok memory) (Ok x) first last sound sound' now still device reach done part = all_in_part d pcbs store mid requests (done now).done
-wanted-part d pcbs store mid requests (Ok memory) (Err e) first last sound sound' now still device reach done part = absurd reach
-wanted-part d pcbs store mid requests (Err e) (Err f) first last sound sound' now still device reach done part = absurd reach
-wanted-part d pcbs store mid requests (Err e) (Ok x) first last sound sound' now still device reach done part = part device now still
+pub wanted-part : (d : Database) (pcbs : List View) (store mid : Stored) (requests : List Request) (played : Result ℕ Ended) (first last : Option (List ℕ)) (sound sound' : Bool)
+    → IsTrue sound → IsTrue sound' → IfErr played (λ e. e.refusal ≡ Some Device) → IfOk played (λ memory. IsTrue sound → IsRunDone d pcbs store requests first last memory mid)
+    → IfErr played (λ e. e.refusal ≡ Some Device → IsTrue sound → IsTrue sound' → IsDoneInPart d pcbs store requests mid) → IsDoneInPart d pcbs store requests mid
+wanted-part d pcbs store mid requests (Ok memory) first last sound sound' now still device done part = all_in_part d pcbs store mid requests (done now).done
+wanted-part d pcbs store mid requests (Err e) first last sound sound' now still device done part = part device now still
 
 -- what a deck adds to the commits
 pub unit-commits : (d : Database) (pcbs : List View) (store mid : Stored) (every : Option ℕ) (turns : List Turn) (wanted sound : Bool) (new : Committed)

@@ -53,7 +53,7 @@ says-failed is_sound failures contents is_sound' failures' contents' d pcbs step
 says-failed is_sound failures contents is_sound' failures' contents' d pcbs steps old new old' new' Memory failed says = inl failed
 
 -- where none did, it says the same of two stores of which the same is known
-says-alike : {S T : Type 0} (is_sound : S → Bool) (failures : S → ℕ) (contents : S → List ℕ) (is_sound' : T → Bool) (failures' : T → ℕ) (contents' : T → List ℕ)
+pub says-alike : {S T : Type 0} (is_sound : S → Bool) (failures : S → ℕ) (contents : S → List ℕ) (is_sound' : T → Bool) (failures' : T → ℕ) (contents' : T → List ℕ)
     (d : Database) (pcbs : List View) (steps : List StepText) (old new : S) (old' new' : T) (r : Refusal)
     → is_sound' old' ≡ is_sound old → (IsTrue (is_sound' old') → (contents' old' ≡ contents old) × (contents' new' ≡ contents new))
     → ((failures old < failures new) × (is_sound new ≡ false) → (failures' old' < failures' new') × (is_sound' new' ≡ false)) → UnitSays is_sound failures contents d pcbs steps old new r → UnitSays is_sound' failures' contents' d pcbs steps old' new' r
@@ -155,14 +155,6 @@ on-err {P = P} result e is holds = subst (λ r. OnErr r P) is holds
 pub refused-as : (result : Result ℕ Ended) (ended : Ended) (A B : Refusal → Type 0) (before after : Option (List ℕ)) → result ≡ Err ended → ((r : Refusal) → A r → B r)
     → IfErr result (λ e. IsRefused A e before after) → IsRefused B ended before after
 refused-as result ended A B before after is says refused = subst (λ (r : Result ℕ Ended). IfErr r (λ e. IsRefused B e before after)) is (refused-on result A B before after says refused)
-
--- an access that failed before a write has failed behind it
-pub fails-on : (result : Result Unit Refused) (is_sound : Bool) (failures : ℕ) (contents : List ℕ) (is_sound' : Bool) (failures' : ℕ) (contents' : List ℕ) (before : ℕ)
-    → IsWritten result is_sound failures contents is_sound' failures' contents' → (before < failures) × (is_sound ≡ false) → (before < failures') × (is_sound' ≡ false)
-fails-on (Ok x) is_sound failures contents is_sound' failures' contents' before w fails = (omega (arith, w.counts, fails.0), w.sound ∙ fails.1)
-fails-on (Err e) is_sound failures contents is_sound' failures' contents' before w fails =
-    let more = write-fails e is_sound failures contents is_sound' failures' contents' w in
-    (omega (arith, fails.0, more.0), more.1)
 
 -- a command that was refused for a failed access, behind work that said nothing
 pub device-refused : {W : Type 0} (contents : W → Option (List ℕ)) (A : Refusal → Type 0) (ended : Ended) (first before after : W) → ended.status ≡ 3 → ended.refusal ≡ Some Device

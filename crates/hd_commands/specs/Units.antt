@@ -36,7 +36,7 @@ AddsCommits is_sound contents committed d pcbs every steps old new =
 
 -- ---- behind a play
 
--- All that a cache had has reached the store below, or an access failed.
+-- All that was to be written has reached the store, or an access failed.
 pub record IsWritten (result : Result Unit Refused) (is_sound : Bool) (failures : ℕ) (contents : List ℕ) (new_is_sound : Bool) (new_failures : ℕ) (new_contents : List ℕ) : Type 0 where
   pub refusal : OnlyDevice result
   pub counts : CountsDevice result failures new_failures

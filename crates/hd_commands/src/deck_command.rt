@@ -24,6 +24,7 @@ fn play_and_print<S: BlockStore, O: Write>(
     alloc: Global,
     dbd: &Dbd,
     psb: &Psb,
+    kept: usize,
     steps: &[Step],
     store: S,
     out: &mut O,
@@ -40,7 +41,7 @@ fn play_and_print<S: BlockStore, O: Write>(
     ensures committed { S.committed result.0 ≡ S.committed store }
     ensures size { S.size result.0 ≡ S.size store }
 {
-    match run(alloc, store, dbd, psb, steps, out) {
+    match run(alloc, store, dbd, psb, kept, steps, out) {
         Ok(end) => match out.flush() {
             Ok(()) => (end.store, Ok(end.memory)),
             Err(_) => (end.store, Err(Refusal::Device)),
@@ -60,6 +61,7 @@ pub fn play_deck<S: BlockStore, O: Write, E: Write>(
     alloc: Global,
     dbd: &Dbd,
     psb: &Psb,
+    kept: usize,
     steps: &[Step],
     store: S,
     out: &mut O,
@@ -78,7 +80,7 @@ pub fn play_deck<S: BlockStore, O: Write, E: Write>(
     ensures committed { S.committed result.0 ≡ S.committed store }
     ensures size { S.size result.0 ≡ S.size store }
 {
-    let (store, played) = play_and_print(alloc, dbd, psb, steps, store, out);
+    let (store, played) = play_and_print(alloc, dbd, psb, kept, steps, store, out);
     match played {
         Ok(memory) => (store, Ok(memory)),
         Err(refusal) => (store, Err(refuse(refusal, err))),

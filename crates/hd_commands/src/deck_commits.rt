@@ -19,6 +19,7 @@ fn commit_and_print<S: CommitStore, O: Write>(
     alloc: Global,
     dbd: &Dbd,
     psb: &Psb,
+    kept: usize,
     steps: &[Step],
     every: Option<u32>,
     store: S,
@@ -37,7 +38,7 @@ fn commit_and_print<S: CommitStore, O: Write>(
     ensures accesses { FailsOrStays S.is_sound S.failures store result.0 }
     ensures size { S.size result.0 ≡ S.size store }
 {
-    match run_with_commits(alloc, store, dbd, psb, steps, every, out) {
+    match run_with_commits(alloc, store, dbd, psb, kept, steps, every, out) {
         Ok(end) => match out.flush() {
             Ok(()) => (end.store, Ok(end.memory)),
             Err(_) => (end.store, Err(Refusal::Device)),
@@ -58,6 +59,7 @@ pub(crate) fn play_and_commit<S: CommitStore, O: Write, E: Write>(
     alloc: Global,
     dbd: &Dbd,
     psb: &Psb,
+    kept: usize,
     steps: &[Step],
     every: Option<u32>,
     store: S,
@@ -78,7 +80,7 @@ pub(crate) fn play_and_commit<S: CommitStore, O: Write, E: Write>(
     ensures accesses { FailsOrStays S.is_sound S.failures store result.0 }
     ensures size { S.size result.0 ≡ S.size store }
 {
-    let (store, played) = commit_and_print(alloc, dbd, psb, steps, every, store, out);
+    let (store, played) = commit_and_print(alloc, dbd, psb, kept, steps, every, store, out);
     match played {
         Ok(memory) => (store, Ok(memory)),
         Err(refusal) => (store, Err(refuse(refusal, err))),

@@ -17,22 +17,20 @@ use hd_dbd::{Dbd, Psb, Refused};
 use hd_deck::Step;
 use hd_journal::{Disk, Journaled};
 use hd_output::Progress;
-use hd_stores::{Cached, CommitStore, Counted, ReadAhead};
+use hd_stores::{CommitStore, Counted, ReadAhead};
 use std::alloc::Global;
 use std::io::Write;
 use std::sync::ledger::Ledger;
 
-/// Whether what a play left is to last: all of it has reached the store, and it made all calls, or some up to a line that could not be written. Where an
-/// access failed instead, the store refuses it.
-fn is_wanted(played: &Result<u64, Ended>, written: &Result<(), Refused>) -> bool
+/// Whether what a play left is to last: it made all calls, or some up to a line that could not be written. Where an access failed instead, the store
+/// refuses it.
+fn is_wanted(played: &Result<u64, Ended>) -> bool
     ensures played { result ≡ true → IfErr played.now (λ e. e.refusal ≡ Some Refusal.Device) }
-    ensures written { result ≡ true → OnErr written.now ⊥ }
-    ensures all { OnOk played.now (OnOk written.now (result ≡ true)) }
+    ensures all { OnOk played.now (result ≡ true) }
 {
-    match (played, written) {
-        (_, Err(_)) => false,
-        (Ok(_), Ok(())) => true,
-        (Err(ended), Ok(())) => ended.refusal == Some(Refusal::Device),
+    match played {
+        Ok(_) => true,
+        Err(ended) => ended.refusal == Some(Refusal::Device),
     }
 }
 
@@ -56,37 +54,8 @@ fn commit_if<D: Disk, L: Ledger>(store: &mut Journaled<D, L>, wanted: bool) -> R
     committed
 }
 
-/// A store behind a cache of so many blocks, which reads ahead. Where there is no memory it is given back.
-fn open_cache<D: Disk, L: Ledger>(
-    alloc: Global,
-    store: Journaled<D, L>,
-    cache: usize,
-) -> Result<Cached<ReadAhead<Journaled<D, L>>>, Journaled<D, L>>
-    requires cache { (0 < cache) × (cache ≤ 65536) }
-    ensures contents { IfOk result (λ c. IsTrue store.is_sound → c.contents ≡ store.contents) }
-    ensures accesses { IfOk result (λ c. (c.is_sound ≡ store.is_sound) × (c.failures ≡ store.failures)) }
-    ensures kept { IfOk result (λ c. (c.committed ≡ store.committed) × (c.size ≡ store.size)) }
-    ensures given { IfErr result (λ given. given ≡ store) }
-{
-    match Cached::new(alloc, ReadAhead::new(alloc, store), cache) {
-        Ok(cached) => Ok(cached),
-        Err((ahead, _)) => Err(ahead.into_store()),
-    }
-}
-
-/// The store behind a cache, and whether all that this had has reached it. `Device` is a failed access.
-fn close_cache<D: Disk, L: Ledger>(
-    cached: Cached<ReadAhead<Journaled<D, L>>>,
-) -> (Journaled<D, L>, Result<(), Refused>)
-    ensures written { IsWritten result.1 cached.is_sound cached.failures cached.contents result.0.is_sound result.0.failures result.0.contents }
-    ensures kept { (result.0.committed ≡ cached.committed) × (result.0.size ≡ cached.size) }
-{
-    let (ahead, written) = cached.into_store();
-    (ahead.into_store(), written)
-}
-
-/// Plays a deck over a store through a cache of so many blocks, with a commit behind every so many calls where that is wanted, and gives the store back with
-/// what it was answered, and whether all that the cache had has reached it.
+/// Plays a deck over a store, of whose volume so many blocks are kept in memory, with a commit behind every so many calls where that is wanted, and gives
+/// the store back with what it was answered.
 fn play_through<D: Disk, L: Ledger, P: Progress, O: Write, E: Write>(
     alloc: Global,
     dbd: &Dbd,
@@ -94,38 +63,32 @@ fn play_through<D: Disk, L: Ledger, P: Progress, O: Write, E: Write>(
     steps: &[Step],
     every: Option<u32>,
     store: Journaled<D, L>,
-    cache: usize,
+    kept: usize,
     progress: &P,
     out: &mut O,
     err: &mut E,
-) -> (Journaled<D, L>, Result<u64, Ended>, Result<(), Refused>)
+) -> (Journaled<D, L>, Result<u64, Ended>)
     requires size { store.size ≡ dbd.now.block_size }
     requires matches { psb.now.made_for ≡ type_names dbd.now.types }
     requires steps { All (StepFits (length psb.now.pcbs)) steps.now }
     requires count { length steps.now ≤ 2 ^ 30 }
-    requires cache { (0 < cache) × (cache ≤ 65536) }
-    ensures played { IfOk result.1 (λ m. OnOk result.2 (PlaysWithCommits (λ s. s.is_sound) (λ s. s.contents) (λ s. s.committed) dbd.now psb.now.pcbs every steps.now store result.0 (O.contents out.old) (O.contents out.new) m)) }
+    ensures played { IfOk result.1 (PlaysWithCommits (λ s. s.is_sound) (λ s. s.contents) (λ s. s.committed) dbd.now psb.now.pcbs every steps.now store result.0 (O.contents out.old) (O.contents out.new)) }
     ensures refused { IfErr result.1 (λ e. IsRefused (UnitSays (λ s. s.is_sound) (λ s. s.failures) (λ s. s.contents) dbd.now psb.now.pcbs steps.now store result.0) e (E.contents err.old) (E.contents err.new)) }
-    ensures part { IfErr result.1 (λ e. OnOk result.2 (e.refusal ≡ Some Refusal.Device → PlaysInPart (λ s. s.is_sound) (λ s. s.contents) (λ s. s.committed) dbd.now psb.now.pcbs every steps.now store result.0)) }
+    ensures part { IfErr result.1 (λ e. e.refusal ≡ Some Refusal.Device → PlaysInPart (λ s. s.is_sound) (λ s. s.contents) (λ s. s.committed) dbd.now psb.now.pcbs every steps.now store result.0) }
     ensures commits { AddsCommits (λ s. s.is_sound) (λ s. s.contents) (λ s. s.committed) dbd.now psb.now.pcbs every steps.now store result.0 }
-    ensures unwritten { OnErr result.2 ((store.failures < result.0.failures) × (result.0.is_sound ≡ false)) }
     ensures accesses { FailsOrStays (λ s. s.is_sound) (λ s. s.failures) store result.0 }
-    ensures failures { OnOk result.2 (OnOk result.1 (result.0.failures ≡ store.failures)) }
+    ensures failures { OnOk result.1 (result.0.failures ≡ store.failures) }
     ensures quiet { OnOk result.1 (err.new ≡ err.old) }
     ensures silent { IfErr result.1 (λ e. e.status ≢ 3 → out.new ≡ out.old) }
     ensures size { result.0.size ≡ store.size }
 {
-    let counted = match open_cache(alloc, store, cache) {
-        Ok(cached) => Counted::new(cached, "playing", progress),
-        Err(store) => return (store, Err(refuse(Refusal::Memory, err)), Ok(())),
-    };
-    let (counted, played) = play_and_commit(alloc, dbd, psb, steps, every, counted, out, err);
-    let (store, written) = close_cache(counted.into_inner());
-    (store, played, written)
+    let counted = Counted::new(ReadAhead::new(alloc, store), "playing", progress);
+    let (counted, played) = play_and_commit(alloc, dbd, psb, kept, steps, every, counted, out, err);
+    (counted.into_inner().into_store(), played)
 }
 
-/// Plays a deck over a volume and its log, through a cache of so many blocks, and makes last what its calls made of the volume. Says what the calls answer on
-/// `out`, or on `err` why they were not all made. Where they were, says how many of them found no memory.
+/// Plays a deck over a volume and its log, with so many blocks of the volume kept in memory, and makes last what its calls made of the volume. Says what the
+/// calls answer on `out`, or on `err` why they were not all made. Where they were, says how many of them found no memory.
 ///
 /// There is a commit behind every so many calls, if a number is given, and one at the end: without a number the deck is one unit. From `Ok` on a crash leaves
 /// what the calls left, whenever it comes. Until then, and behind a refusal, it leaves the image of the last commit, which is that before the deck until there
@@ -138,7 +101,7 @@ pub fn play_unit<D: Disk, L: Ledger, P: Progress, O: Write, E: Write>(
     steps: &[Step],
     every: Option<u32>,
     store: Journaled<D, L>,
-    cache: usize,
+    kept: usize,
     progress: &P,
     out: &mut O,
     err: &mut E,
@@ -147,7 +110,6 @@ pub fn play_unit<D: Disk, L: Ledger, P: Progress, O: Write, E: Write>(
     requires matches { psb.now.made_for ≡ type_names dbd.now.types }
     requires steps { All (StepFits (length psb.now.pcbs)) steps.now }
     requires count { length steps.now ≤ 2 ^ 30 }
-    requires cache { (0 < cache) × (cache ≤ 65536) }
     ensures crash { IsTrue D.is_honest → IsSafe result.0.committed (D.state result.0.disk) }
     ensures commits { IsTrue store.is_sound → IsTrue D.is_honest → UnitCommits dbd.now psb.now.pcbs (stored_in (λ s. s.contents) (λ s. s.committed) store) every (turns_of steps.now) result.0.committed }
     ensures played { IfOk result.1 (PlaysUnit (λ s. s.is_sound) (λ s. s.contents) (λ s. s.committed) dbd.now psb.now.pcbs every steps.now store result.0 (O.contents out.old) (O.contents out.new)) }
@@ -158,19 +120,16 @@ pub fn play_unit<D: Disk, L: Ledger, P: Progress, O: Write, E: Write>(
     ensures silent { IfErr result.1 (λ e. e.status ≢ 3 → out.new ≡ out.old) }
     ensures size { result.0.size ≡ store.size }
 {
-    let (mut store, played, written) = play_through(
-        alloc, dbd, psb, steps, every, store, cache, progress, out, err,
+    let (mut store, played) = play_through(
+        alloc, dbd, psb, steps, every, store, kept, progress, out, err,
     );
-    let wanted = is_wanted(&played, &written);
+    let wanted = is_wanted(&played);
     let committed = commit_if(&mut store, wanted);
     match played {
         Err(ended) => (store, Err(ended)),
-        Ok(memory) => match written {
+        Ok(memory) => match committed {
             Err(_) => (store, Err(refuse(Refusal::Device, err))),
-            Ok(()) => match committed {
-                Err(_) => (store, Err(refuse(Refusal::Device, err))),
-                Ok(()) => (store, Ok(memory)),
-            },
+            Ok(()) => (store, Ok(memory)),
         },
     }
 }

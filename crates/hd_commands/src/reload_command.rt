@@ -20,6 +20,7 @@ pub fn reload_store<S: BlockStore, O: Write, E: Write>(
     stream: &[u8],
     store: S,
     largest: u32,
+    kept: usize,
     out: &mut O,
     err: &mut E,
 ) -> (S, Ended)
@@ -32,7 +33,7 @@ pub fn reload_store<S: BlockStore, O: Write, E: Write>(
     ensures silent { result.1.status ≢ 0 → result.1.status ≢ 3 → out.new ≡ out.old }
     ensures none { result.1.status ≢ 0 → result.1.status ≢ 3 → IsTrue (S.is_sound store) → HasNoHeader (S.size store) (S.contents result.0) }
 {
-    match reload(alloc, dbd, stream, store, largest) {
+    match reload(alloc, dbd, stream, store, largest, kept) {
         Ok(loaded) => match print_reloaded(out, loaded.segments, loaded.blocks) {
             Ok(()) => (loaded.store, DONE),
             Err(_) => (loaded.store, refuse(Refusal::Device, err)),

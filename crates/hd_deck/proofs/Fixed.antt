@@ -1,5 +1,5 @@
 -- The parts of a line that have a fixed length, as their bytes.
-use Rattle.std.proofs.Common.{◌≡◌, ℕ, ◌+◌, ◌<◌, List, [], ◌∷◌, ◌++◌, length, get_or, codes, decimal, refl, sym, ap, ◌∙◌}
+use Rattle.std.proofs.Common.{◌≡◌, ℕ, ◌+◌, ◌<◌, List, [], ◌∷◌, ◌++◌, length, get_or, codes, decimal, refl, sym, ap, ap₂, ◌∙◌, append_assoc}
 use Rattle.std.proofs.lemmas.Slice.Eq.{text_from_reads}
 use Rattle.std.proofs.lemmas.Fmt.{decimal_digit}
 
@@ -37,3 +37,29 @@ place-bytes s d n s' d' n' two two' eight es ed en =
     ∙ ap (λ l. (codes " [" ++ l ++ codes "] ") ++ (d ++ codes " " ++ n) ++ codes " key=") es
     ∙ ap (λ l. (codes " [" ++ s' ++ codes "] ") ++ (l ++ codes " " ++ n) ++ codes " key=") ed
     ∙ ap (λ l. (codes " [" ++ s' ++ codes "] ") ++ (d' ++ codes " " ++ l) ++ codes " key=") en
+
+-- what is appended behind two lists goes behind both
+push : (front middle xs ys : List ℕ) → front ++ (middle ++ (xs ++ ys)) ≡ (front ++ (middle ++ xs)) ++ ys
+push front middle xs ys = ap (λ l. front ++ l) (sym (append_assoc middle xs ys)) ∙ sym (append_assoc front (middle ++ xs) ys)
+
+-- the number goes before the rest of a head
+head-joined : (number s c f : List ℕ) → number ++ (((s ++ c) ++ s) ++ f) ≡ (((number ++ s) ++ c) ++ s) ++ f
+head-joined number s c f =
+    sym (append_assoc number ((s ++ c) ++ s) f)
+    ∙ ap (λ l. l ++ f) (sym (append_assoc number (s ++ c) s) ∙ ap (λ l. l ++ s) (sym (append_assoc number s c)))
+
+-- a short line is the head, and the outcome behind it
+pub short-line : (number h c f place b key key' area area' : List ℕ) → h ≡ codes " " ++ c ++ codes " " ++ f → place ≡ b ++ codes " key=" → key' ≡ key → area' ≡ area
+    → number ++ h ++ place ++ key ++ codes " area=" ++ area ++ codes "\n" ≡ (number ++ codes " " ++ c ++ codes " " ++ f) ++ (b ++ (codes " key=" ++ key' ++ codes " area=" ++ area' ++ codes "\n"))
+short-line number h c f place b key key' area area' eh ep ek ea =
+    let s : List ℕ = codes " " in
+    let word : List ℕ = codes " key=" in
+    let next : List ℕ = codes " area=" in
+    let end : List ℕ = codes "\n" in
+    let front : List ℕ = (((number ++ s) ++ c) ++ s) ++ f in
+    ap₂ (λ (x y : List ℕ). (number ++ x) ++ y ++ key ++ next ++ area ++ end) eh ep
+    ∙ ap (λ (l : List ℕ). l ++ (b ++ word) ++ key ++ next ++ area ++ end) (head-joined number s c f)
+    ∙ sym (push front b (((word ++ key) ++ next) ++ area) end
+    ∙ ap (λ (l : List ℕ). l ++ end) (push front b ((word ++ key) ++ next) area
+    ∙ ap (λ (l : List ℕ). l ++ area) (push front b (word ++ key) next ∙ ap (λ (l : List ℕ). l ++ next) (push front b word key))))
+    ∙ ap₂ (λ (k a : List ℕ). front ++ (b ++ (word ++ k ++ next ++ a ++ end))) (sym ek) (sym ea)

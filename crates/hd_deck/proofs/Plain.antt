@@ -3,7 +3,7 @@ use Rattle.std.proofs.Common.{◌≡◌, ℕ, List, [], ◌∷◌, ◌++◌, Boo
 use Rattle.std.specs.Prelude.{not, nat_le, ◌&&◌, ◌==◌}
 use Rattle.std.specs.List.{list_all}
 use Rattle.std.proofs.lemmas.Bool.{and_parts}
-use Rattle.hd_deck.specs.Printing.{hex_digit, is_plain, shown, shown_byte}
+use Rattle.hd_deck.specs.Printing.{is_plain, shown, shown_byte}
 
 plain_byte : (b : ℕ) → is_plain b ≡ true → shown_byte b ≡ b ∷ []
 plain_byte b h = formula (b == 92) (nat_le 32 b && nat_le b 126) _ h

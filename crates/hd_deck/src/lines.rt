@@ -1,15 +1,22 @@
-ghost use Rattle.std.specs.Prelude.{◌≡◌, ◌<◌, ◌++◌, unwrap_or, replicate, codes, decimal, OnOk};
+ghost use Rattle.std.specs.Prelude.{◌≡◌, ◌<◌, ◌≤◌, ◌+◌, ◌++◌, true, length, take, unwrap_or, replicate, codes, decimal, OnOk};
 ghost use Rattle.std.specs.List.{list_all};
 ghost use Rattle.std.specs.Io.KnownBytes.{Appends};
 ghost use Rattle.hd_dbd.specs.Logs.{replied};
 ghost use Rattle.hd_session.specs.Replies.{reply_of};
 ghost use Rattle.hd_deck.specs.Printing.{hex_digit, is_plain, shown, shown_byte, two_digits, head_text, bracket_text, place_text, outcome_text, refused_text, refusal_text, answered_text};
+ghost use Rattle.hd_deck.specs.declared.lines.TheConstants.{SHORT};
 
 use hd_dbd::{Name8, Refused, Status, status_text};
 use hd_session::{Answer, IoArea};
 use itoa::Buffer;
 use std::io::Write;
 use thiserror::Error;
+
+/// The bytes of a line that goes out in one write: a number has at most 40, and head, place and the words between have 36.
+const LINE_ROOM: usize = 256;
+
+/// The bytes that key and area have together at most in such a line.
+const SHORT: usize = 180;
 
 /// A write failed. How much went out before it is not known.
 #[derive(Clone, Copy, Debug, Drop, PartialEq, Eq, Error)]
@@ -37,14 +44,19 @@ fn hex_digit(n: u8) -> u8
 fn is_plain(byte: u8) -> bool
     ensures { result ≡ is_plain byte }
 {
-    byte != b'\\' && 32 <= byte && byte <= 126
+    (byte != b'\\') & (32 <= byte) & (byte <= 126)
 }
 
-/// Whether all bytes are printed as they are.
+/// Whether all bytes are printed as they are. No byte ends the loop, so that several are looked at at once.
 fn are_plain(bytes: &[u8]) -> bool
-    ensures { result ≡ list_all is_plain bytes.now }
+    ensures plain { result ≡ list_all is_plain bytes.now }
+    ensures same { result ≡ true → shown bytes.now ≡ bytes.now }
 {
-    bytes.iter().all(|byte| is_plain(*byte))
+    let mut plain = true;
+    for byte in bytes {
+        plain &= is_plain(*byte);
+    }
+    plain
 }
 
 /// Writes bytes so that each is seen: 32 to 126 as they are, but a backslash doubled, and any other as `\x` and two hexadecimal digits.
@@ -166,6 +178,54 @@ fn put_answer<W: Write>(out: &mut W, answer: &Answer, io: &IoArea) -> Result<(),
     put_bytes(out, io)
 }
 
+/// Adds bytes behind the first of a line, and says how many it has then.
+fn add(line: &mut [u8; LINE_ROOM], end: usize, bytes: &[u8]) -> usize
+    requires { end + length bytes.now ≤ 256 }
+    ensures end { result ≡ end + length bytes.now }
+    ensures line { take result line.new ≡ take end line.old ++ bytes.now }
+{
+    let behind = end + bytes.len();
+    line[end..behind].copy_from_slice(bytes);
+    behind
+}
+
+/// Whether a key and an area go out in one write with what stands beside them: both are short, and printed as they are.
+fn is_short(key: &[u8], area: &[u8]) -> bool
+    ensures room { result ≡ true → length key.now + length area.now ≤ SHORT }
+    ensures key { result ≡ true → shown key.now ≡ key.now }
+    ensures area { result ≡ true → shown area.now ≡ area.now }
+{
+    let room = SHORT.saturating_sub(key.len());
+    if key.len() > SHORT || area.len() > room {
+        return false;
+    }
+    are_plain(key) && are_plain(area)
+}
+
+/// Writes the line of an answer with a short key and area in one write.
+fn put_short<W: Write>(
+    out: &mut W,
+    number: u64,
+    head: &[u8; 7],
+    place: &[u8; 22],
+    key: &[u8],
+    area: &[u8],
+) -> Result<(), WriteFault>
+    requires room { length key.now + length area.now ≤ SHORT }
+    ensures { OnOk result (Appends (W.contents out.old) (W.contents out.new)
+        (decimal number ++ head.now ++ place.now ++ key.now ++ codes " area=" ++ area.now ++ codes "\n")) }
+{
+    let mut line = [0u8; LINE_ROOM];
+    let end = add(&mut line, 0, Buffer::new().format(number).as_bytes());
+    let end = add(&mut line, end, head);
+    let end = add(&mut line, end, place);
+    let end = add(&mut line, end, key);
+    let end = add(&mut line, end, b" area=");
+    let end = add(&mut line, end, area);
+    let end = add(&mut line, end, b"\n");
+    put(out, &line[..end])
+}
+
 /// Writes the line of one call that was answered: the call's number, from 1, its PCB's number and its function, then
 /// status, level, segment, key and area.
 pub fn print_answer<W: Write>(
@@ -179,6 +239,11 @@ pub fn print_answer<W: Write>(
     ensures { OnOk result (Appends (W.contents out.old) (W.contents out.new)
         (head_text number pcb function.now ++ outcome_text (replied (reply_of answer.now io.now)))) }
 {
+    let (key, area) = (io.key(), io.area());
+    if pcb < 10 && is_short(key, area) {
+        let place = place_bytes(answer.status, answer.level, &answer.segment);
+        return put_short(out, number, &short_head(pcb, function), &place, key, area);
+    }
     put_head(out, number, pcb, function)?;
     put_answer(out, answer, io)
 }

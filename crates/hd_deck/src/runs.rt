@@ -122,12 +122,13 @@ fn commit_and_close<S: CommitStore, W: Write>(
     }
 }
 
-/// A session over the volume of a store, and room for what its calls answer.
+/// A session over the volume of a store, which keeps so many of its blocks in memory, and room for what its calls answer.
 fn open_run<'a, S: BlockStore>(
     alloc: Global,
     store: S,
     dbd: &'a Dbd,
     psb: &'a Psb,
+    kept: usize,
 ) -> Result<(Session<'a, S>, IoArea), (S, RunFault)>
     requires size { S.size store ≡ dbd.now.block_size }
     requires matches { psb.now.made_for ≡ type_names dbd.now.types }
@@ -145,7 +146,7 @@ fn open_run<'a, S: BlockStore>(
     let Ok(io) = IoArea::new(alloc, dbd) else {
         return Err((store, RunFault::Memory));
     };
-    let volume = match Volume::load(alloc, store, dbd) {
+    let volume = match Volume::load_keeping(alloc, store, dbd, kept) {
         Ok(volume) => volume,
         Err((store, Refused::Device)) => return Err((store, RunFault::Device)),
         Err((store, _)) => return Err((store, RunFault::Memory)),
@@ -156,8 +157,8 @@ fn open_run<'a, S: BlockStore>(
     }
 }
 
-/// Plays the steps in their order, each as often as it is repeated, in a session over the volume of a store, prints each answer, and closes
-/// the session.
+/// Plays the steps in their order, each as often as it is repeated, in a session over the volume of a store, which keeps so many of its blocks in
+/// memory, prints each answer, and closes the session.
 ///
 /// A call that is refused for its area, for room or for memory is printed as `[!!] Area`, `[!!] Full` or `[!!] Memory`, and the run goes on.
 /// `Open` and `Memory` come before the first call, and nothing is written then. `Device` ends the run at the failed access; where that was one of
@@ -168,6 +169,7 @@ pub fn run<S: BlockStore, W: Write>(
     store: S,
     dbd: &Dbd,
     psb: &Psb,
+    kept: usize,
     steps: &[Step],
     out: &mut W,
 ) -> Result<RunEnd<S>, (S, RunFault)>
@@ -188,7 +190,7 @@ pub fn run<S: BlockStore, W: Write>(
     ensures size { IfOk result (λ e. S.size e.store ≡ S.size store) }
     ensures given_size { IfErr result (λ e. S.size e.0 ≡ S.size store) }
 {
-    let (session, mut io) = open_run(alloc, store, dbd, psb)?;
+    let (session, mut io) = open_run(alloc, store, dbd, psb, kept)?;
     match play_and_close(session, steps, &mut io, out) {
         Ok(end) => Ok(end),
         Err((store, stop)) => Err((store, fault_of(stop))),
@@ -205,6 +207,7 @@ pub fn run_with_commits<S: CommitStore, W: Write>(
     store: S,
     dbd: &Dbd,
     psb: &Psb,
+    kept: usize,
     steps: &[Step],
     every: Option<u32>,
     out: &mut W,
@@ -224,7 +227,7 @@ pub fn run_with_commits<S: CommitStore, W: Write>(
     ensures size { IfOk result (λ e. S.size e.store ≡ S.size store) }
     ensures given_size { IfErr result (λ e. S.size e.0 ≡ S.size store) }
 {
-    let (session, mut io) = open_run(alloc, store, dbd, psb)?;
+    let (session, mut io) = open_run(alloc, store, dbd, psb, kept)?;
     match commit_and_close(session, steps, every, &mut io, out) {
         Ok(end) => Ok(end),
         Err((store, stop)) => Err((store, fault_of(stop))),

@@ -1,5 +1,4 @@
 use crate::named::Named;
-use hd_dbd::Refused;
 use hd_journal::Unopened;
 use std::alloc::{AllocError, AllocFailed};
 use std::io::{self, ErrorKind};
@@ -60,15 +59,6 @@ pub fn of_file<T>(file: Named, done: io::Result<T>) -> Result<T, FileFault> {
     match done {
         Ok(value) => Ok(value),
         Err(error) => Err(FileFault::file(file, error)),
-    }
-}
-
-impl From<Refused> for FileFault {
-    fn from(refused: Refused) -> FileFault {
-        match refused {
-            Refused::Memory => FileFault::Memory,
-            _ => FileFault::Device,
-        }
     }
 }
 

@@ -1,10 +1,10 @@
-ghost use Rattle.std.specs.Prelude.{◌≡◌, ◌<◌, ◌≤◌, ◌^◌, IsTrue, IfOk, vec_len};
+ghost use Rattle.std.specs.Prelude.{◌≡◌, ◌<◌, ◌≤◌, ◌^◌, IfOk, vec_len};
 
 use crate::fault::{FileFault, of_file};
 use crate::input::read_whole;
 use crate::named::Named;
 use hd_dbd::Dbd;
-use hd_stores::{Cached, FileStore, ReadAhead, RunStore};
+use hd_stores::{FileStore, ReadAhead};
 use std::alloc::Global;
 use std::fs::{self, File, FileType, Metadata, OpenOptions, TryLockError};
 use std::io::{self, ErrorKind};
@@ -236,38 +236,20 @@ pub fn file_blocks<L: Ledger>(
     }
 }
 
-/// A store that is read ahead where its blocks come in order, with a cache of so many before it, from 1 to 65,536.
-pub fn cached<S: RunStore + Drop>(
-    alloc: Global,
-    store: S,
-    cache: u32,
-) -> Result<Cached<ReadAhead<S>>, FileFault>
-    ensures contents { IfOk result (λ s. IsTrue (S.is_sound store) → s.contents ≡ S.contents store) }
-    ensures sound { IfOk result (λ s. s.is_sound ≡ S.is_sound store) }
-    ensures size { IfOk result (λ s. s.size ≡ S.size store) }
-{
-    let ahead = ReadAhead::new(alloc, store);
-    match Cached::new(alloc, ahead, cache.clamp(1, 65_536) as usize) {
-        Ok(cached) => Ok(cached),
-        Err((_, refused)) => Err(FileFault::from(refused)),
-    }
-}
-
-/// The blocks of a volume in a file, read ahead where they come in order, with a cache of so many before them, from 1 to 65,536.
-pub fn cached_blocks<L: Ledger>(
+/// The blocks of a volume in a file, read ahead where they come in order.
+pub fn ahead_blocks<L: Ledger>(
     alloc: Global,
     dbd: &Dbd,
     file: File,
-    cache: u32,
     blank: Blank,
-) -> Result<Cached<ReadAhead<FileStore<L>>>, FileFault>
+) -> Result<ReadAhead<FileStore<L>>, FileFault>
     requires name { blank.name ≡ L.name }
     requires parts { blank.parts ≡ L.parts }
     requires share { 0 < blank.parts }
     ensures size { IfOk result (λ s. s.size ≡ dbd.now.block_size) }
 {
     let store = file_blocks::<L>(dbd, file, blank)?;
-    cached(alloc, store, cache)
+    Ok(ReadAhead::new(alloc, store))
 }
 
 /// Waits until a file, or the names in a folder, are on the disk. What the system can't sync, as a pipe, has nothing to wait for.

@@ -14,8 +14,7 @@ mod watched;
 
 pub use fault::{FileFault, of_file};
 pub use files::{
-    Identity, OpenVolume, cached, cached_blocks, file_blocks, open, open_shared, open_volume,
-    read_file,
+    Identity, OpenVolume, ahead_blocks, file_blocks, open, open_shared, open_volume, read_file,
 };
 pub use held::Held;
 pub use input::read_whole;

@@ -30,6 +30,6 @@ pub use fault::{RowFault, TextFault};
 pub use naming::code_named;
 pub use table_text::header_of;
 pub use tables::stream_of_tables;
-pub use text::stream_of_rows;
+pub use text::{fault_column, stream_of_rows};
 pub use typed::Values;
 pub use writer::{Form, RowWriter};

@@ -19,6 +19,7 @@ pub struct LineReader<'a> {
     value: Vec<u8>,
     number: Vec<u8>,
     filling: Vec<u8>,
+    left: usize,
 }
 
 impl<'a> LineReader<'a> {
@@ -31,12 +32,18 @@ impl<'a> LineReader<'a> {
             value: Vec::new(alloc),
             number: Vec::new(alloc),
             filling: Vec::new(alloc),
+            left: 0,
         }
     }
 
     /// The bytes of the segment that was read last.
     pub fn bytes(&self) -> &[u8] {
         self.draft.bytes()
+    }
+
+    /// How many bytes of the line that was read last stood from the part on that was read last; all where none was.
+    pub fn left(&self) -> usize {
+        self.left
     }
 
     /// Reads a part and its value at the front of a text; gives what follows.
@@ -91,6 +98,7 @@ impl<'a> LineReader<'a> {
             if left.is_empty() {
                 return Ok(());
             }
+            self.left = left.len();
             left = unpadded(self.read_part(segment, left)?);
         }
         Ok(())
@@ -98,6 +106,7 @@ impl<'a> LineReader<'a> {
 
     /// Reads a line without its indentation; says the code of the row's type.
     pub fn read(&mut self, line: &[u8]) -> Result<u8, Wrong> {
+        self.left = line.len();
         let end = memchr(b' ', line).unwrap_or(line.len());
         let Some(code) = code_named(self.dbd, &line[..end]) else {
             return Err(Wrong::Row(RowFault::Type));

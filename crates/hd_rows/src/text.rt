@@ -133,6 +133,17 @@ fn read_text(alloc: Global, dbd: &Dbd, text: &[u8], values: Values) -> Result<Ro
     Ok(rows)
 }
 
+/// The column of a line that is refused, counted from 1, in which the part begins that cannot be read, or where all can the type's name.
+pub fn fault_column(alloc: Global, dbd: &Dbd, line: &[u8], values: Values) -> usize {
+    let words = unpadded(line);
+    let mut reader = LineReader::new(alloc, dbd, values);
+    let left = match reader.read(words) {
+        Ok(_) => words.len(),
+        Err(_) => reader.left(),
+    };
+    line.len().saturating_sub(left).saturating_add(1)
+}
+
 /// Writes the unload stream of the rows that a text spells, a line each, and says how many they are.
 ///
 /// Twins may stand in any order and the types below a row too: they are sorted. Values are bytes, or are read by the TYPEs of their

@@ -142,12 +142,13 @@ fn serve_and_close<S: CommitStore, I: Read, W: Write>(
     }
 }
 
-/// Opens a session over the volume of a store, and serves the requests of the input in it.
+/// Opens a session over the volume of a store, which keeps so many of its blocks in memory, and serves the requests of the input in it.
 fn serve_session<S: CommitStore, I: Read, W: Write>(
     alloc: Global,
     store: S,
     dbd: &Dbd,
     psb: &Psb,
+    kept: usize,
     desk: &mut Desk,
     first: &[u8],
     input: &mut I,
@@ -168,7 +169,7 @@ fn serve_session<S: CommitStore, I: Read, W: Write>(
     ensures given_size { IfErr result (λ e. S.size e.0 ≡ S.size store) }
     ensures same { (desk.new.limits ≡ desk.old.limits) × (desk.new.io.room ≡ desk.old.io.room) }
 {
-    let volume = match Volume::load(alloc, store, dbd) {
+    let volume = match Volume::load_keeping(alloc, store, dbd, kept) {
         Ok(volume) => volume,
         Err((store, Refused::Device)) => return Err((store, ServeFault::Device)),
         Err((store, _)) => return Err((store, ServeFault::Memory)),
@@ -219,6 +220,7 @@ impl Service {
         store: S,
         dbd: &Dbd,
         psb: &Psb,
+        kept: usize,
         input: &mut I,
         out: &mut W,
     ) -> Result<ServeEnd<S>, (S, ServeFault)>
@@ -238,7 +240,17 @@ impl Service {
         ensures given_size { IfErr result (λ e. S.size e.0 ≡ S.size store) }
     {
         let first = first_frame(&self.hello);
-        match serve_session(alloc, store, dbd, psb, &mut self.desk, first, input, out) {
+        match serve_session(
+            alloc,
+            store,
+            dbd,
+            psb,
+            kept,
+            &mut self.desk,
+            first,
+            input,
+            out,
+        ) {
             Ok(end) => {
                 if end.ending == Ending::RollBack {
                     self.hello = None;

@@ -93,7 +93,8 @@ fn load_records<S: BlockStore>(
     Err(ReloadFault::Record(RecordFault::U2, records.len() as u64 + 1))
 }
 
-/// Makes a volume of an unload stream in an empty store: of the newest version, of this largest count, 1 to 65,536 blocks, and flushed.
+/// Makes a volume of an unload stream in an empty store: of the newest version, of this largest count, 1 to 65,536 blocks, and flushed. So many of its blocks
+/// are kept in memory.
 ///
 /// The first record with a fault refuses the stream; `Full` comes at a record with which nothing is wrong where the volume has no
 /// room for it. A refusal gives the store back; unless an access failed, it has then no volume.
@@ -105,6 +106,7 @@ pub fn reload<S: BlockStore>(
     stream: &[u8],
     store: S,
     largest: u32,
+    kept: usize,
 ) -> Result<Reloaded<S>, (S, ReloadFault)>
     requires size { S.size store ≡ dbd.now.block_size }
     requires empty { IsTrue (S.is_sound store) → S.contents store ≡ [] }
@@ -119,7 +121,7 @@ pub fn reload<S: BlockStore>(
         Ok(records) => records,
         Err(fault) => return Err((store, ReloadFault::Record(fault, 0))),
     };
-    match Volume::create(alloc, store, dbd, largest) {
+    match Volume::create_keeping(alloc, store, dbd, largest, kept) {
         Ok(volume) => fill(volume, dbd, records),
         Err((store, Refused::Memory)) => Err((store, ReloadFault::Memory)),
         Err((store, _)) => Err((store, ReloadFault::Device)),

@@ -1,6 +1,6 @@
 use hd_files::Named;
 
-/// What the words of the command line ask for. All of them but `blocks`, `cache`, `end_commits`, `syncs`, `table`, `is_tables`, `is_typed` and `word` are names of files; `cache`
+/// What the words of the command line ask for. All of them but `blocks`, `cache`, `end_commits`, `syncs`, `table`, `is_tables`, `is_typed`, `is_whole` and `word` are names of files; `cache`
 /// says how many blocks of the volume are kept in memory, if the words say it, and `syncs` whether to wait until what is written is on the disk.
 #[derive(Clone, Copy)]
 pub enum Request<'a> {
@@ -26,9 +26,11 @@ pub enum Request<'a> {
         cache: Option<u32>,
         syncs: bool,
     },
+    /// A check of a volume, which lists all faults or names the first.
     Check {
         dbd: &'a str,
         volume: &'a str,
+        is_whole: bool,
         cache: Option<u32>,
     },
     /// The commits in a volume's log, or in a file that is named for it, copied into the volume.

@@ -129,6 +129,13 @@ const COMMIT_ON_REQUEST: Word = Word {
     kind: Kind::Flag("commit-on-request"),
 };
 
+/// That all faults are listed.
+const ALL: Word = Word {
+    name: "ALL",
+    help: "List all faults of the first phase of the check that finds any, and what later phases find, with the segments that they touch",
+    kind: Kind::Flag("all"),
+};
+
 /// That values are written and read by the TYPEs of their fields.
 const TYPED: Word = Word {
     name: "TYPED",
@@ -171,7 +178,7 @@ const VERBS: &[Verb] = &[
         name: "check",
         asks: Asks::Check,
         about: "Says whether a volume is sound, or names its first fault",
-        words: &[DBD, VOLUME, CACHE],
+        words: &[DBD, VOLUME, ALL, CACHE],
     },
     Verb {
         name: "recover",

@@ -59,6 +59,7 @@ fn asked_by<'a>(asks: Asks, given: &ArgMatches<'a>) -> Request<'a> {
         Asks::Check => Request::Check {
             dbd: text_of(given, "DBD"),
             volume: text_of(given, "VOLUME"),
+            is_whole: given.get_flag("ALL"),
             cache: cache_of(given),
         },
         Asks::Recover => recover_of(given),
