@@ -53,9 +53,15 @@ pub fn advise_stop<R: Files<File = File>, E: Write>(
         Stop::Deck(fault, text, file) => {
             advise_deck(alloc, *fault, request.name_of(*file), text, &mut ink);
         }
-        Stop::Rows(fault, line, text) => {
+        Stop::Rows(fault, line, column, text) => {
             let number = usize::try_from(*line).unwrap_or(usize::MAX);
-            put_line(request.name_of(Named::Rows), number, text, &mut ink);
+            put_place(
+                request.name_of(Named::Rows),
+                number,
+                *column,
+                text,
+                &mut ink,
+            );
             advise_row(*fault, &mut ink);
         }
         Stop::File(Named::Volume, error) => {

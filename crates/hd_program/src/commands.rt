@@ -1,5 +1,5 @@
 use crate::advice::{advise_full, advise_refusal, advise_stop};
-use crate::check_command::check_file;
+use crate::check_command::{Faults, check_file};
 use crate::console::{Console, Further, NOTHING_FURTHER};
 use crate::copy_command::copy_file;
 use crate::deck_command::play_file;
@@ -206,7 +206,12 @@ where
             cache,
             syncs,
         } => serve_file(console, dbd, psb, volume, end_commits, cache, syncs, input),
-        Request::Check { dbd, volume, cache } => check_file(console, dbd, volume, cache),
+        Request::Check {
+            dbd,
+            volume,
+            is_whole,
+            cache,
+        } => check_file(console, dbd, volume, faults_of(is_whole), cache),
         Request::Recover {
             dbd,
             volume,
@@ -319,6 +324,11 @@ where
         Request::Operands { source } => list_operands(rt, alloc, source, &mut *console.out),
         Request::Explain { word } => explain_word(word, &mut *console.out, &mut *console.err),
     }
+}
+
+/// Which faults of a volume are told.
+fn faults_of(is_whole: bool) -> Faults {
+    if is_whole { Faults::All } else { Faults::First }
 }
 
 /// How values are written and read.

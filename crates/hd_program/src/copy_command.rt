@@ -8,7 +8,7 @@ use crate::stop::Stop;
 use crate::volume_store::open_to_read;
 use hd_commands::{Ended, Refusal, refuse};
 use hd_dbd::Dbd;
-use hd_files::{FileFault, Named, Output, Wanted, Watched, cached_blocks};
+use hd_files::{FileFault, Named, Output, Wanted, Watched, ahead_blocks};
 use hd_output::{Pieces, Progress};
 use hd_salvage::copy_volume;
 use hd_stores::Counted;
@@ -44,8 +44,8 @@ fn duplicate<L: Ledger, W: Write, P: Progress>(
     requires parts { blank.parts ≡ L.parts }
     requires share { 0 < blank.parts }
 {
-    let store = cached_blocks::<L>(alloc, dbd, file, cache, blank)?;
-    let mut volume = load_volume(alloc, dbd, Counted::new(store, "copying", progress))?;
+    let store = ahead_blocks::<L>(alloc, dbd, file, blank)?;
+    let mut volume = load_volume(alloc, dbd, Counted::new(store, "copying", progress), cache)?;
     let Ok(mut blocks) = Pieces::new(alloc, copy) else {
         return Err(Stop::from(Refusal::Memory));
     };

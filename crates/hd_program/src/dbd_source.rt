@@ -9,12 +9,12 @@ use std::rt::Files;
 /// How many blocks of a volume are kept in memory for a command that goes through it in order, where the command line does not say.
 pub const CACHE: u32 = 64;
 
-/// How many bytes of a volume are kept in memory for the calls of a deck, where the command line does not say.
-const CALLS_CACHE: u32 = 4_194_304;
+/// How many bytes of a volume are kept in memory for a command that changes it or makes it, where the command line does not say.
+const CHANGES_CACHE: u32 = 4_194_304;
 
-/// How many blocks of a volume are kept in memory for the calls of a deck, where the command line does not say.
-pub fn blocks_for_calls(dbd: &Dbd) -> u32 {
-    CALLS_CACHE / dbd.block_size().max(1)
+/// How many blocks of a volume are kept in memory for a command that changes it or makes it, where the command line does not say.
+pub fn blocks_for_changes(dbd: &Dbd) -> u32 {
+    CHANGES_CACHE / dbd.block_size().max(1)
 }
 
 /// The database that a file of its source describes.

@@ -4,7 +4,7 @@ ghost use Rattle.hd_deck.specs.StepText.{StepFits};
 
 use crate::compared::{Compared, Expectations};
 use crate::console::{Console, Further, NOTHING_FURTHER};
-use crate::dbd_source::{blocks_for_calls, read_database};
+use crate::dbd_source::{blocks_for_changes, read_database};
 use crate::deck_lines::{committed_calls, held_lines};
 use crate::lines::{DEVICE_FAILED, DIFFERS};
 use crate::stop::Stop;
@@ -105,8 +105,8 @@ enum Unplayed {
     Memory,
 }
 
-/// Plays a deck over a store, through a cache of so many blocks, as one unit, or with a commit behind every so many calls. What its calls changed is then
-/// committed.
+/// Plays a deck over a store, with so many blocks of its volume kept in memory, as one unit, or with a commit behind every so many calls. What its calls
+/// changed is then committed.
 fn play_store<D: Disk, L: Ledger, P: Progress, O: Write>(
     alloc: Global,
     dbd: &Dbd,
@@ -124,9 +124,9 @@ fn play_store<D: Disk, L: Ledger, P: Progress, O: Write>(
     requires steps { All (StepFits (length psb.now.pcbs)) steps.now }
     requires count { length steps.now ≤ 2 ^ 30 }
 {
-    let cache = cache.clamp(1, 65_536) as usize;
+    let kept = cache as usize;
     let (store, played) = play_unit(
-        alloc, dbd, psb, steps, every, store, cache, progress, out, said,
+        alloc, dbd, psb, steps, every, store, kept, progress, out, said,
     );
     (store, end_of(played))
 }
@@ -371,7 +371,7 @@ where
     let pcbs = psb.pcbs().len() as u8;
     let (steps, expectations, text) = read_steps(rt, alloc, pcbs, deck, compares)?;
     let volume = open_volume(rt, volume, &[source, program, text])?;
-    let cache = cache.unwrap_or(blocks_for_calls(&dbd));
+    let cache = cache.unwrap_or(blocks_for_changes(&dbd));
     let (files, left) = open_files(alloc, volume, syncs)?;
     let played = play_own(
         alloc,

@@ -13,6 +13,7 @@ mod dbd_source;
 mod deck_command;
 mod deck_lines;
 mod explain_command;
+mod fault_list;
 mod ink;
 mod lines;
 mod operands_command;

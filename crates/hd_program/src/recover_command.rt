@@ -1,4 +1,4 @@
-use crate::check_command::check_file;
+use crate::check_command::{Faults, check_file};
 use crate::console::Console;
 use crate::dbd_source::read_database;
 use crate::stop::Stop;
@@ -36,5 +36,5 @@ where
     let _ = read_database(console.rt, console.alloc, dbd)?;
     let left = recover_volume(console.rt, console.alloc, volume, log)?;
     writeln!(console.out, "{}", said_of(left))?;
-    check_file(console, dbd, volume, cache)
+    check_file(console, dbd, volume, Faults::First, cache)
 }

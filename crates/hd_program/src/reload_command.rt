@@ -1,14 +1,14 @@
 ghost use Rattle.std.specs.Prelude.{◌≡◌, ◌<◌, [], IsTrue};
 
 use crate::console::Console;
-use crate::dbd_source::{CACHE, read_database};
+use crate::dbd_source::{blocks_for_changes, read_database};
 use crate::lines::{DEVICE_FAILED, Lines};
 use crate::stop::Stop;
 use hd_commands::{Ended, reload_store};
-use hd_dbd::{Dbd, Refused};
-use hd_files::{FileFault, Named, Output, Wanted, cached, file_blocks, of_file, read_file};
+use hd_dbd::Dbd;
+use hd_files::{Named, Output, Wanted, file_blocks, of_file, read_file};
 use hd_output::Progress;
-use hd_stores::{BlockStore, Counted, RunStore};
+use hd_stores::{BlockStore, Counted, ReadAhead, RunStore};
 use std::alloc::Global;
 use std::fs::File;
 use std::io::Write;
@@ -23,6 +23,7 @@ fn fill<S: BlockStore>(
     stream: &[u8],
     store: S,
     blocks: u32,
+    cache: u32,
     lines: &mut Lines,
 ) -> (S, Ended)
     requires size { S.size store ≡ dbd.now.block_size }
@@ -30,7 +31,7 @@ fn fill<S: BlockStore>(
 {
     let most = blocks.clamp(1, 65_536);
     let Lines { out, err } = lines;
-    reload_store(alloc, dbd, stream, store, most, out, err)
+    reload_store(alloc, dbd, stream, store, most, cache as usize, out, err)
 }
 
 /// Loads a stream into an empty store, and tells of its accesses. Gives the store back.
@@ -40,6 +41,7 @@ fn fill_counted<S: BlockStore, P: Progress>(
     stream: &[u8],
     store: S,
     blocks: u32,
+    cache: u32,
     progress: &P,
     lines: &mut Lines,
 ) -> (S, Ended)
@@ -47,12 +49,12 @@ fn fill_counted<S: BlockStore, P: Progress>(
     requires empty { IsTrue (S.is_sound store) → S.contents store ≡ [] }
 {
     let store = Counted::new(store, "reloading", progress);
-    let (store, ended) = fill(alloc, dbd, stream, store, blocks, lines);
+    let (store, ended) = fill(alloc, dbd, stream, store, blocks, cache, lines);
     (store.into_inner(), ended)
 }
 
-/// Loads a stream into an empty store, with a cache of so many blocks before it. Gives the store back, and whether it has every block.
-fn fill_cached<S: RunStore + Drop, P: Progress>(
+/// Loads a stream into an empty store, whose blocks are read ahead. Gives the store back.
+fn fill_ahead<S: RunStore + Drop, P: Progress>(
     alloc: Global,
     dbd: &Dbd,
     stream: &[u8],
@@ -61,14 +63,13 @@ fn fill_cached<S: RunStore + Drop, P: Progress>(
     cache: u32,
     progress: &P,
     lines: &mut Lines,
-) -> Result<(S, Result<(), Refused>, Ended), FileFault>
+) -> (S, Ended)
     requires size { S.size store ≡ dbd.now.block_size }
     requires empty { IsTrue (S.is_sound store) → S.contents store ≡ [] }
 {
-    let store = cached(alloc, store, cache)?;
-    let (store, ended) = fill_counted(alloc, dbd, stream, store, blocks, progress, lines);
-    let (store, written) = store.into_store();
-    Ok((store.into_store(), written, ended))
+    let store = ReadAhead::new(alloc, store);
+    let (store, ended) = fill_counted(alloc, dbd, stream, store, blocks, cache, progress, lines);
+    (store.into_store(), ended)
 }
 
 /// Loads a stream into an empty file, with a ledger for the accesses that fail. The file then has every block.
@@ -88,11 +89,8 @@ fn fill_blocks<L: Ledger, P: Progress>(
     requires share { 0 < blank.parts }
 {
     let store = file_blocks::<L>(dbd, file, blank)?;
-    let (store, written, ended) = fill_cached(
-        alloc, dbd, stream, store, blocks, cache, progress, lines,
-    )?;
+    let (store, ended) = fill_ahead(alloc, dbd, stream, store, blocks, cache, progress, lines);
     match ended.status {
-        0 if written.is_err() => Err(Stop::device(Named::Volume, store.last_error())),
         DEVICE_FAILED => Err(Stop::device(Named::Volume, store.last_error())),
         _ => Ok(ended),
     }
@@ -164,7 +162,7 @@ where
         syncs,
     };
     let mut output = Output::open(rt, alloc, wanted, &[source, records])?;
-    let cache = cache.unwrap_or(CACHE);
+    let cache = cache.unwrap_or(blocks_for_changes(&dbd));
     let progress = console.progress;
     let (ended, lines) = fill_into(alloc, &dbd, &stream, &mut output, blocks, cache, progress)?;
     lines.tell(&mut *console.out, &mut *console.err)?;

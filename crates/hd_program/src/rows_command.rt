@@ -8,10 +8,10 @@ use crate::stop::Stop;
 use crate::volume_store::open_to_read;
 use hd_commands::{Ended, Refusal, refuse};
 use hd_dbd::Dbd;
-use hd_files::{Watched, cached, file_blocks};
+use hd_files::{Watched, file_blocks};
 use hd_output::{Pieces, Progress};
 use hd_rows::{Form, RowWriter, Values, code_named};
-use hd_stores::{BlockStore, RunStore};
+use hd_stores::{BlockStore, ReadAhead, RunStore};
 use hd_unload::{UnloadFault, unload};
 use hd_volume::Volume;
 use std::alloc::Global;
@@ -81,20 +81,21 @@ fn list<S: BlockStore + Drop, O: Write, E: Write>(
     dbd: &Dbd,
     store: S,
     shape: Shape,
+    cache: u32,
     out: &mut O,
     err: &mut E,
 ) -> Result<Ended, Stop>
     requires { S.size store ≡ dbd.now.block_size }
 {
-    let mut volume = load_volume(alloc, dbd, store)?;
+    let mut volume = load_volume(alloc, dbd, store, cache)?;
     match write_rows(alloc, &mut volume, dbd, shape, out) {
         Ok(_) => Ok(Ended::with_status(0)),
         Err(refusal) => Ok(refuse(refusal, err)),
     }
 }
 
-/// Checks the volume in a store, with a cache of so many blocks before it, and writes its rows as text.
-fn list_cached<S: RunStore + Drop, O: Write, E: Write>(
+/// Checks the volume in a store, whose blocks are read ahead, and writes its rows as text.
+fn list_ahead<S: RunStore + Drop, O: Write, E: Write>(
     alloc: Global,
     dbd: &Dbd,
     store: S,
@@ -105,8 +106,8 @@ fn list_cached<S: RunStore + Drop, O: Write, E: Write>(
 ) -> Result<Ended, Stop>
     requires { S.size store ≡ dbd.now.block_size }
 {
-    let store = cached(alloc, store, cache)?;
-    list(alloc, dbd, store, shape, out, err)
+    let store = ReadAhead::new(alloc, store);
+    list(alloc, dbd, store, shape, cache, out, err)
 }
 
 /// Checks the volume in a file, and writes its rows as text, with a ledger for the accesses that fail.
@@ -125,7 +126,7 @@ fn list_blocks<L: Ledger, O: Write, E: Write>(
     requires share { 0 < blank.parts }
 {
     let store = file_blocks::<L>(dbd, file, blank)?;
-    list_cached(alloc, dbd, store, shape, cache, out, err)
+    list_ahead(alloc, dbd, store, shape, cache, out, err)
 }
 
 /// As `list_blocks`, with a ledger of its own.

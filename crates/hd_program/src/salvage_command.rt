@@ -10,10 +10,10 @@ use crate::stop::Stop;
 use crate::volume_store::open_to_read;
 use hd_commands::{Ended, Refusal, refuse};
 use hd_dbd::Dbd;
-use hd_files::{FileFault, Named, Output, Wanted, Watched, cached, file_blocks};
+use hd_files::{FileFault, Named, Output, Wanted, Watched, file_blocks};
 use hd_output::{Pieces, Progress};
 use hd_salvage::{Lost, SalvageFault, Salvaged, salvage};
-use hd_stores::{BlockStore, Counted, RunStore};
+use hd_stores::{BlockStore, Counted, ReadAhead, RunStore};
 use hd_volume::Volume;
 use std::alloc::Global;
 use std::fs::File;
@@ -96,11 +96,12 @@ fn rescue<S: BlockStore + Drop, W: Write, O: Write>(
     store: S,
     stream: &mut W,
     orphans: Option<&mut O>,
+    cache: u32,
     lines: &mut Lines,
 ) -> Result<Ended, Stop>
     requires { S.size store ≡ dbd.now.block_size }
 {
-    let mut volume = load_volume(alloc, dbd, store)?;
+    let mut volume = load_volume(alloc, dbd, store, cache)?;
     let mut lost = Lost::nothing(alloc);
     let salvaged = match put_stream(alloc, &mut volume, dbd, stream, &mut lost) {
         Ok(salvaged) => salvaged,
@@ -120,17 +121,18 @@ fn rescue_counted<S: BlockStore + Drop, W: Write, O: Write, P: Progress>(
     store: S,
     stream: &mut W,
     orphans: Option<&mut O>,
+    cache: u32,
     progress: &P,
     lines: &mut Lines,
 ) -> Result<Ended, Stop>
     requires { S.size store ≡ dbd.now.block_size }
 {
     let store = Counted::new(store, "salvaging", progress);
-    rescue(alloc, dbd, store, stream, orphans, lines)
+    rescue(alloc, dbd, store, stream, orphans, cache, lines)
 }
 
-/// Salvages the volume in a store, with a cache of so many blocks before it.
-fn rescue_cached<S: RunStore + Drop, W: Write, O: Write, P: Progress>(
+/// Salvages the volume in a store, whose blocks are read ahead.
+fn rescue_ahead<S: RunStore + Drop, W: Write, O: Write, P: Progress>(
     alloc: Global,
     dbd: &Dbd,
     store: S,
@@ -142,8 +144,8 @@ fn rescue_cached<S: RunStore + Drop, W: Write, O: Write, P: Progress>(
 ) -> Result<Ended, Stop>
     requires { S.size store ≡ dbd.now.block_size }
 {
-    let store = cached(alloc, store, cache)?;
-    rescue_counted(alloc, dbd, store, stream, orphans, progress, lines)
+    let store = ReadAhead::new(alloc, store);
+    rescue_counted(alloc, dbd, store, stream, orphans, cache, progress, lines)
 }
 
 /// Salvages the volume in a file, with a ledger for the accesses that fail.
@@ -163,7 +165,7 @@ fn rescue_blocks<L: Ledger, W: Write, O: Write, P: Progress>(
     requires share { 0 < blank.parts }
 {
     let store = file_blocks::<L>(dbd, file, blank)?;
-    rescue_cached(alloc, dbd, store, stream, orphans, cache, progress, lines)
+    rescue_ahead(alloc, dbd, store, stream, orphans, cache, progress, lines)
 }
 
 /// As `rescue_blocks`, with a ledger of its own.

@@ -69,12 +69,15 @@ const STREAM: &[u8] =
 /// The most blocks that the sample's volume may have.
 const BLOCKS: u32 = 16;
 
+/// How many of them are kept in memory.
+pub const KEPT: usize = 3;
+
 /// A volume of the sample's segments, in memory.
 pub fn volume(alloc: Global, dbd: &Dbd) -> Result<MemStore, Stop>
     ensures { IfOk result (λ s. s.size ≡ dbd.now.block_size) }
 {
     let store = MemStore::new(dbd.block_size() as usize, Vec::new(alloc));
-    match reload(alloc, dbd, STREAM, store, BLOCKS) {
+    match reload(alloc, dbd, STREAM, store, BLOCKS, KEPT) {
         Ok(loaded) => Ok(loaded.store),
         Err((_, fault)) => Err(Stop::from(Refusal::of_reload(fault))),
     }

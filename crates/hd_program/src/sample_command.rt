@@ -60,7 +60,7 @@ fn play_over_blocks<S: BlockStore + Drop, O: Write, E: Write>(
     requires steps { All (StepFits (length psb.now.pcbs)) steps.now }
     requires count { length steps.now ≤ 2 ^ 30 }
 {
-    let (_, played) = play_deck(alloc, dbd, psb, steps, store, out, err);
+    let (_, played) = play_deck(alloc, dbd, psb, sample::KEPT, steps, store, out, err);
     end_of(played)
 }
 

@@ -3,7 +3,7 @@ ghost use Rattle.hd_dbd.specs.ProgramRules.{type_names};
 ghost use Rattle.hd_serve.specs.Serves.{IsServiceFor};
 
 use crate::console::Console;
-use crate::dbd_source::{blocks_for_calls, read_database};
+use crate::dbd_source::{blocks_for_changes, read_database};
 use crate::deck_command::read_program;
 use crate::stop::Stop;
 use crate::volume_store::{
@@ -16,7 +16,7 @@ use hd_files::{Left, Named, VolumeFiles, open_volume};
 use hd_journal::{Disk, Journaled, Unopened};
 use hd_output::Progress;
 use hd_serve::{Ending, FrameFault, ServeFault, Service};
-use hd_stores::{Cached, CommitStore, ReadAhead, RunStore};
+use hd_stores::{CommitStore, ReadAhead, RunStore};
 use std::alloc::Global;
 use std::fs::File;
 use std::io::{self, Read, Write};
@@ -55,6 +55,7 @@ fn serve_session<S: CommitStore, I: Read, O: Write>(
     psb: &Psb,
     service: &mut Service,
     store: S,
+    kept: usize,
     input: &mut I,
     out: &mut O,
 ) -> (S, Result<(Ending, u64), ServeFault>)
@@ -64,41 +65,13 @@ fn serve_session<S: CommitStore, I: Read, O: Write>(
     ensures size { S.size result.0 ≡ S.size store }
     ensures made_for { IsServiceFor dbd.now psb.now.pcbs service.new }
 {
-    match service.serve(alloc, store, dbd, psb, input, out) {
+    match service.serve(alloc, store, dbd, psb, kept, input, out) {
         Ok(end) => (end.store, Ok((end.ending, end.memory))),
         Err((store, fault)) => (store, Err(fault)),
     }
 }
 
-/// One session over a store, through a cache of so many blocks.
-fn serve_cached<S: CommitStore, I: Read, O: Write>(
-    alloc: Global,
-    dbd: &Dbd,
-    psb: &Psb,
-    service: &mut Service,
-    store: S,
-    cache: u32,
-    input: &mut I,
-    out: &mut O,
-) -> (S, Result<(Ending, u64), ServeFault>)
-    requires size { S.size store ≡ dbd.now.block_size }
-    requires matches { psb.now.made_for ≡ type_names dbd.now.types }
-    requires made_for { IsServiceFor dbd.now psb.now.pcbs service.old }
-    ensures size { S.size result.0 ≡ S.size store }
-    ensures made_for { IsServiceFor dbd.now psb.now.pcbs service.new }
-{
-    let store = match Cached::new(alloc, store, cache.clamp(1, 65_536) as usize) {
-        Ok(store) => store,
-        Err((store, _)) => return (store, Err(ServeFault::Memory)),
-    };
-    let (store, served) = serve_session(alloc, dbd, psb, service, store, input, out);
-    match store.into_store() {
-        (store, Ok(())) => (store, served),
-        (store, Err(_)) => (store, Err(ServeFault::Device)),
-    }
-}
-
-/// One session over a store, through a cache of so many blocks, for which blocks are read ahead.
+/// One session over a store whose blocks are read ahead, with so many of its volume kept in memory.
 fn serve_ahead<S: RunStore + CommitStore, I: Read, O: Write>(
     alloc: Global,
     dbd: &Dbd,
@@ -116,7 +89,8 @@ fn serve_ahead<S: RunStore + CommitStore, I: Read, O: Write>(
     ensures made_for { IsServiceFor dbd.now psb.now.pcbs service.new }
 {
     let ahead = ReadAhead::new(alloc, store);
-    let (ahead, served) = serve_cached(alloc, dbd, psb, service, ahead, cache, input, out);
+    let kept = cache as usize;
+    let (ahead, served) = serve_session(alloc, dbd, psb, service, ahead, kept, input, out);
     (ahead.into_store(), served)
 }
 
@@ -330,7 +304,7 @@ where
     let (dbd, source) = read_database(rt, alloc, dbd)?;
     let (psb, program) = read_program(rt, alloc, &dbd, psb)?;
     let volume = open_volume(rt, volume, &[source, program])?;
-    let cache = cache.unwrap_or(blocks_for_calls(&dbd));
+    let cache = cache.unwrap_or(blocks_for_changes(&dbd));
     let (files, left) = open_files(alloc, volume, syncs)?;
     serve_own(
         alloc,

@@ -7,10 +7,10 @@ use crate::stop::Stop;
 use crate::volume_store::open_to_read;
 use hd_commands::{Ended, Refusal, check_volume};
 use hd_dbd::Dbd;
-use hd_files::{FileFault, Identity, Named, Output, Wanted, cached, file_blocks, of_file};
+use hd_files::{FileFault, Identity, Named, Output, Wanted, file_blocks, of_file};
 use hd_output::{Pieces, Progress};
 use hd_show::{Survey, draw_database, draw_svg, draw_volume, survey_volume};
-use hd_stores::{BlockStore, RunStore};
+use hd_stores::{BlockStore, ReadAhead, RunStore};
 use std::alloc::Global;
 use std::fs::File;
 use std::io::Write;
@@ -61,12 +61,13 @@ fn show<S: BlockStore + Drop, R: Files<File = File>, O: Write, E: Write>(
     dbd: &Dbd,
     store: S,
     picture: Option<&mut Output<'_, R>>,
+    cache: u32,
     out: &mut O,
     err: &mut E,
 ) -> Result<Ended, Stop>
     requires { S.size store ≡ dbd.now.block_size }
 {
-    let mut volume = load_volume(alloc, dbd, store)?;
+    let mut volume = load_volume(alloc, dbd, store, cache)?;
     let survey = survey_volume(alloc, &mut volume, dbd)?;
     match picture {
         Some(picture) => draw_picture(alloc, dbd, &survey, picture)?,
@@ -75,8 +76,8 @@ fn show<S: BlockStore + Drop, R: Files<File = File>, O: Write, E: Write>(
     Ok(check_volume(alloc, &mut volume, dbd, out, err))
 }
 
-/// Draws the volume in a store, with a cache of so many blocks before it, and judges it.
-fn show_cached<S: RunStore + Drop, R: Files<File = File>, O: Write, E: Write>(
+/// Draws the volume in a store, whose blocks are read ahead, and judges it.
+fn show_ahead<S: RunStore + Drop, R: Files<File = File>, O: Write, E: Write>(
     alloc: Global,
     dbd: &Dbd,
     store: S,
@@ -87,8 +88,8 @@ fn show_cached<S: RunStore + Drop, R: Files<File = File>, O: Write, E: Write>(
 ) -> Result<Ended, Stop>
     requires { S.size store ≡ dbd.now.block_size }
 {
-    let store = cached(alloc, store, cache)?;
-    show(alloc, dbd, store, picture, out, err)
+    let store = ReadAhead::new(alloc, store);
+    show(alloc, dbd, store, picture, cache, out, err)
 }
 
 /// Draws the volume in a file, and judges it, with a ledger for the accesses that fail.
@@ -107,7 +108,7 @@ fn show_blocks<L: Ledger, R: Files<File = File>, O: Write, E: Write>(
     requires share { 0 < blank.parts }
 {
     let store = file_blocks::<L>(dbd, file, blank)?;
-    show_cached(alloc, dbd, store, picture, cache, out, err)
+    show_ahead(alloc, dbd, store, picture, cache, out, err)
 }
 
 /// As `show_blocks`, with a ledger of its own.

@@ -4,13 +4,12 @@ use crate::beginning::Beginning;
 use crate::check_command::load_volume;
 use crate::dbd_source::{CACHE, read_database};
 use crate::stop::Stop;
+use hd_check_blocks::Fault;
 use hd_commands::Refusal;
 use hd_dbd::{Dbd, Name8};
-use hd_files::{
-    FileFault, Left, Named, VolumeFiles, cached, file_blocks, of_file, open, open_shared,
-};
+use hd_files::{FileFault, Left, Named, VolumeFiles, file_blocks, of_file, open, open_shared};
 use hd_show::see_segment;
-use hd_stores::{BlockStore, RunStore};
+use hd_stores::{BlockStore, ReadAhead, RunStore};
 use hd_unload::RecordFault;
 use hd_words::Request;
 use std::alloc::Global;
@@ -63,14 +62,19 @@ pub struct Sighted {
     pub key: Vec<u8>,
 }
 
-/// The segment of which a refusal tells: that at the place of the fault, or for an entry of the index that at the address in the entry.
+/// The segment of which a fault tells: that at its place, or for an entry of the index that at the address in the entry.
+pub fn segment_of(fault: &Fault) -> Option<u32> {
+    match fault.number() {
+        6..=14 | 18 => Some(fault.address),
+        17 => Some(fault.other),
+        _ => None,
+    }
+}
+
+/// The segment of which a refusal tells.
 fn address_of(refusal: Refusal) -> Option<u32> {
     match refusal {
-        Refusal::Fault(fault) => match fault.number() {
-            6..=14 | 18 => Some(fault.address),
-            17 => Some(fault.other),
-            _ => None,
-        },
+        Refusal::Fault(fault) => segment_of(&fault),
         _ => None,
     }
 }
@@ -92,7 +96,7 @@ fn see<S: BlockStore + Drop>(
 ) -> Result<Option<Sighted>, Stop>
     requires { S.size store ≡ dbd.now.block_size }
 {
-    let mut volume = load_volume(alloc, dbd, store)?;
+    let mut volume = load_volume(alloc, dbd, store, CACHE)?;
     let Some(seen) = see_segment(alloc, &mut volume, dbd, address)? else {
         return Ok(None);
     };
@@ -106,8 +110,8 @@ fn see<S: BlockStore + Drop>(
     }))
 }
 
-/// Sees the segment at an address of the volume in a store, with a cache before it.
-fn see_cached<S: RunStore + Drop>(
+/// Sees the segment at an address of the volume in a store, whose blocks are read ahead.
+fn see_ahead<S: RunStore + Drop>(
     alloc: Global,
     dbd: &Dbd,
     store: S,
@@ -115,7 +119,7 @@ fn see_cached<S: RunStore + Drop>(
 ) -> Result<Option<Sighted>, Stop>
     requires { S.size store ≡ dbd.now.block_size }
 {
-    let store = cached(alloc, store, CACHE)?;
+    let store = ReadAhead::new(alloc, store);
     see(alloc, dbd, store, address)
 }
 
@@ -132,7 +136,7 @@ fn see_blocks<L: Ledger>(
     requires share { 0 < blank.parts }
 {
     let store = file_blocks::<L>(dbd, file, blank)?;
-    see_cached(alloc, dbd, store, address)
+    see_ahead(alloc, dbd, store, address)
 }
 
 /// As `see_blocks`, with a ledger of its own.

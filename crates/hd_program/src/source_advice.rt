@@ -37,10 +37,11 @@ pub fn advise_source<E: Write>(
     match fault {
         GenFault::Line(fault) => advise_line(alloc, fault, word, text, ink),
         GenFault::G1(line) => advise_label(line, word, text, ink),
-        GenFault::G2(line) | GenFault::G5(line) => {
+        GenFault::G2(line) => {
             put_line(text.name, line, text.source, ink);
             put_word(word, ink);
         }
+        GenFault::G5(line) => advise_missing(alloc, line, word, text, ink),
         GenFault::G3(line) | GenFault::G4(line) => {
             advise_operand(alloc, line, word, text, dbd, ink);
         }
@@ -192,6 +193,83 @@ fn advise_operand<E: Write>(
     put_more(entry, ink);
 }
 
+/// Whether a statement has an operand of a keyword.
+fn has(statement: &Statement, keyword: &[u8]) -> bool {
+    for operand in &statement.operands {
+        if operand.keyword.as_slice() == keyword {
+            return true;
+        }
+    }
+    false
+}
+
+/// The keyword of the first operand that a PCB needs and has not; none where it has all.
+fn missing_in_pcb(statement: &Statement) -> Option<&'static str> {
+    if !has(statement, b"TYPE") {
+        return Some("TYPE");
+    }
+    if !has(statement, b"DBDNAME") && !has(statement, b"NAME") {
+        return Some("DBDNAME");
+    }
+    if !has(statement, b"PROCOPT") {
+        return Some("PROCOPT");
+    }
+    None
+}
+
+/// The keyword of the first operand that a statement needs and has not; none where it has all.
+fn missing_in(statement: &Statement) -> Option<&'static str> {
+    if is(statement, b"PCB") {
+        return missing_in_pcb(statement);
+    }
+    if !has(statement, b"NAME") {
+        return Some("NAME");
+    }
+    if is(statement, b"DBD") && !has(statement, b"ACCESS") {
+        return Some("ACCESS");
+    }
+    let is_field = is(statement, b"FIELD");
+    if (is_field || is(statement, b"SEGM")) && !has(statement, b"BYTES") {
+        return Some("BYTES");
+    }
+    if is_field && !has(statement, b"START") {
+        return Some("START");
+    }
+    None
+}
+
+/// Writes the line of a statement that lacks an operand, and the operand's keyword.
+fn advise_missing<E: Write>(
+    alloc: Global,
+    line: usize,
+    word: &str,
+    text: SourceText<'_>,
+    ink: &mut Ink<'_, E>,
+) {
+    put_line(text.name, line, text.source, ink);
+    let Some(entry) = explain(word) else {
+        return;
+    };
+    put_entry(entry, ink);
+    if let Ok(statements) = statements(alloc, text.source) {
+        if let Some(statement) = statement_on(&statements, line) {
+            put_missing(statement, ink);
+        }
+    }
+    put_more(entry, ink);
+}
+
+/// Writes which operand a statement lacks.
+fn put_missing<E: Write>(statement: &Statement, ink: &mut Ink<'_, E>) {
+    let Some(keyword) = missing_in(statement) else {
+        return;
+    };
+    ink.put("; the ");
+    put_named(statement, ink);
+    ink.put(" has no ");
+    ink.put(keyword);
+}
+
 /// Writes an operand.
 fn put_operand<E: Write>(operand: &Operand, ink: &mut Ink<'_, E>) {
     ink.put("; the operand is ");
@@ -260,12 +338,17 @@ fn put_culprit<E: Write>(culprit: Culprit<'_>, pcb: usize, ink: &mut Ink<'_, E>)
 
 /// Writes the operation of a statement and its name; a PCB has a number.
 fn put_statement<E: Write>(statement: &Statement, pcb: usize, ink: &mut Ink<'_, E>) {
-    ink.shown(&statement.operation);
     if is(statement, b"PCB") {
-        ink.put(" ");
+        ink.put("PCB ");
         ink.number(pcb as u64);
         return;
     }
+    put_named(statement, ink);
+}
+
+/// Writes the operation of a statement and its name, where it has one.
+fn put_named<E: Write>(statement: &Statement, ink: &mut Ink<'_, E>) {
+    ink.shown(&statement.operation);
     let name = name_in(statement);
     if !name.is_empty() {
         ink.put(" ");

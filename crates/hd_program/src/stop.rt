@@ -36,8 +36,8 @@ pub enum Stop {
     Source(LineFault, Vec<u8>),
     /// The deck has a fault; with the deck, and the file that it stands in.
     Deck(DeckFault, Vec<u8>, Named),
-    /// A text of rows has a fault on a line; with the text.
-    Rows(RowFault, u64, Vec<u8>),
+    /// A text of rows has a fault on a line, at a column, 0 where none is known; with the text.
+    Rows(RowFault, u64, usize, Vec<u8>),
     /// A table has a fault on a line.
     Table(TableFault),
     /// The system refused to open, to read or to write a file.
@@ -83,7 +83,7 @@ impl fmt::Display for Stop {
             Stop::Program(fault, _) => return write!(f, "PSB refused: {fault}"),
             Stop::Source(fault, _) => return write!(f, "source refused: {fault}"),
             Stop::Deck(fault, _, _) => return write!(f, "DECK refused: {fault}"),
-            Stop::Rows(fault, line, _) => return write!(f, "IN refused: line {line}, {fault}"),
+            Stop::Rows(fault, line, _, _) => return write!(f, "IN refused: line {line}, {fault}"),
             Stop::Table(table) => return write!(f, "{table}"),
             Stop::Frame(fault) => return write!(f, "frame refused: {fault}"),
             Stop::Refused(refusal) => return write!(f, "{refusal}"),
@@ -159,7 +159,7 @@ impl Stop {
     pub fn status(&self) -> u8 {
         match self {
             Stop::Database(_, _) | Stop::Program(_, _) | Stop::Source(_, _) => 2,
-            Stop::Deck(_, _, _) | Stop::Rows(_, _, _) | Stop::Table(_) => 2,
+            Stop::Deck(_, _, _) | Stop::Rows(_, _, _, _) | Stop::Table(_) => 2,
             Stop::Fields => 2,
             Stop::File(_, _) | Stop::Beside(_, _) | Stop::InUse(_) | Stop::Frame(_) => 3,
             Stop::OtherVolume | Stop::OtherVersion | Stop::Waiting(_) => 3,

@@ -1,11 +1,12 @@
 use crate::dbd_source::read_database;
+use crate::places::line_at;
 use crate::stop::{Stop, TableFault};
 use hd_commands::{Ended, Refusal};
 use hd_dbd::{Dbd, Name8, SegType};
 use hd_files::{FileFault, Identity, Named, Output, Wanted, Watched, read_file, read_whole};
 use hd_output::Pieces;
 use hd_rows::{
-    RowFault, TextFault, Values, code_named, column_name, header_of, stream_of_rows,
+    RowFault, TextFault, Values, code_named, column_name, fault_column, header_of, stream_of_rows,
     stream_of_tables,
 };
 use std::alloc::{AllocError, Global};
@@ -87,15 +88,24 @@ where
     drop(file);
     match made {
         Ok(segments) => end_stream(segments, &mut output, out),
-        Err(fault) => Err(rows_refused(fault, text, said)),
+        Err(fault) => Err(rows_refused(alloc, &dbd, values, fault, text, said)),
     }
 }
 
 /// Why a text of rows makes no stream.
-fn rows_refused(fault: TextFault, text: Vec<u8>, said: Option<io::Error>) -> Stop {
+fn rows_refused(
+    alloc: Global,
+    dbd: &Dbd,
+    values: Values,
+    fault: TextFault,
+    text: Vec<u8>,
+    said: Option<io::Error>,
+) -> Stop {
     match fault {
         TextFault::Row(fault, line) | TextFault::Table(fault, _, line, _) => {
-            Stop::Rows(fault, line, text)
+            let number = usize::try_from(line).unwrap_or(usize::MAX);
+            let column = fault_column(alloc, dbd, line_at(&text, number), values);
+            Stop::Rows(fault, line, column, text)
         }
         TextFault::Memory => Stop::from(Refusal::Memory),
         TextFault::Write => Stop::device(Named::Out, said),
@@ -328,7 +338,7 @@ fn tables_refused(
     said: Option<io::Error>,
 ) -> Stop {
     match fault {
-        TextFault::Row(fault, line) => Stop::Rows(fault, line, Vec::new(alloc)),
+        TextFault::Row(fault, line) => Stop::Rows(fault, line, 0, Vec::new(alloc)),
         TextFault::Table(fault, code, line, column) => {
             let text = text_of_table(alloc, tables, code);
             match table_refused(alloc, dbd, fault, code, line, column, text) {

@@ -10,10 +10,10 @@ use crate::stream_command::text_of;
 use crate::volume_store::open_to_read;
 use hd_commands::{Ended, Refusal};
 use hd_dbd::{Dbd, SegType};
-use hd_files::{Identity, Named, Output, Wanted, Watched, cached, file_blocks};
+use hd_files::{Identity, Named, Output, Wanted, Watched, file_blocks};
 use hd_output::Progress;
 use hd_rows::{Form, Values};
-use hd_stores::{BlockStore, RunStore};
+use hd_stores::{BlockStore, ReadAhead, RunStore};
 use hd_volume::Volume;
 use std::alloc::{AllocError, Global};
 use std::fs::{self, File};
@@ -157,15 +157,16 @@ fn write<S: BlockStore + Drop, R: Files<File = File>>(
     dbd: &Dbd,
     store: S,
     folder: &Folder<'_, R>,
+    cache: u32,
 ) -> Result<u32, Stop>
     requires { S.size store ≡ dbd.now.block_size }
 {
-    let mut volume = load_volume(alloc, dbd, store)?;
+    let mut volume = load_volume(alloc, dbd, store, cache)?;
     write_tables(alloc, &mut volume, dbd, folder)
 }
 
-/// Writes the tables of the volume in a store, with a cache of so many blocks before it, into a folder.
-fn write_cached<S: RunStore + Drop, R: Files<File = File>>(
+/// Writes the tables of the volume in a store, whose blocks are read ahead, into a folder.
+fn write_ahead<S: RunStore + Drop, R: Files<File = File>>(
     alloc: Global,
     dbd: &Dbd,
     store: S,
@@ -174,8 +175,8 @@ fn write_cached<S: RunStore + Drop, R: Files<File = File>>(
 ) -> Result<u32, Stop>
     requires { S.size store ≡ dbd.now.block_size }
 {
-    let store = cached(alloc, store, cache)?;
-    write(alloc, dbd, store, folder)
+    let store = ReadAhead::new(alloc, store);
+    write(alloc, dbd, store, folder, cache)
 }
 
 /// Writes the tables of the volume in a file into a folder, with a ledger for the accesses that fail.
@@ -192,7 +193,7 @@ fn write_blocks<L: Ledger, R: Files<File = File>>(
     requires share { 0 < blank.parts }
 {
     let store = file_blocks::<L>(dbd, file, blank)?;
-    write_cached(alloc, dbd, store, folder, cache)
+    write_ahead(alloc, dbd, store, folder, cache)
 }
 
 /// As `write_blocks`, with a ledger of its own.

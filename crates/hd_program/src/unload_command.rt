@@ -8,9 +8,9 @@ use crate::stop::Stop;
 use crate::volume_store::open_to_read;
 use hd_commands::{Ended, Refusal, unload_volume};
 use hd_dbd::Dbd;
-use hd_files::{Named, Output, Wanted, Watched, cached, file_blocks};
+use hd_files::{Named, Output, Wanted, Watched, file_blocks};
 use hd_output::{Pieces, Progress};
-use hd_stores::{BlockStore, Counted, RunStore};
+use hd_stores::{BlockStore, Counted, ReadAhead, RunStore};
 use std::alloc::Global;
 use std::fs::File;
 use std::io::{self, Write};
@@ -24,11 +24,12 @@ fn copy<S: BlockStore + Drop, W: Write>(
     dbd: &Dbd,
     store: S,
     stream: &mut W,
+    cache: u32,
     lines: &mut Lines,
 ) -> Result<Ended, Stop>
     requires { S.size store ≡ dbd.now.block_size }
 {
-    let mut volume = load_volume(alloc, dbd, store)?;
+    let mut volume = load_volume(alloc, dbd, store, cache)?;
     let Ok(mut records) = Pieces::new(alloc, stream) else {
         return Err(Stop::from(Refusal::Memory));
     };
@@ -49,17 +50,18 @@ fn copy_counted<S: BlockStore + Drop, W: Write, P: Progress>(
     dbd: &Dbd,
     store: S,
     stream: &mut W,
+    cache: u32,
     progress: &P,
     lines: &mut Lines,
 ) -> Result<Ended, Stop>
     requires { S.size store ≡ dbd.now.block_size }
 {
     let store = Counted::new(store, "unloading", progress);
-    copy(alloc, dbd, store, stream, lines)
+    copy(alloc, dbd, store, stream, cache, lines)
 }
 
-/// Unloads the volume in a store into a stream, with a cache of so many blocks before the store.
-fn copy_cached<S: RunStore + Drop, W: Write, P: Progress>(
+/// Unloads the volume in a store into a stream, whose blocks are read ahead.
+fn copy_ahead<S: RunStore + Drop, W: Write, P: Progress>(
     alloc: Global,
     dbd: &Dbd,
     store: S,
@@ -70,8 +72,8 @@ fn copy_cached<S: RunStore + Drop, W: Write, P: Progress>(
 ) -> Result<Ended, Stop>
     requires { S.size store ≡ dbd.now.block_size }
 {
-    let store = cached(alloc, store, cache)?;
-    copy_counted(alloc, dbd, store, stream, progress, lines)
+    let store = ReadAhead::new(alloc, store);
+    copy_counted(alloc, dbd, store, stream, cache, progress, lines)
 }
 
 /// Unloads the volume in a file into a stream, with a ledger for the accesses that fail.
@@ -90,7 +92,7 @@ fn copy_blocks<L: Ledger, W: Write, P: Progress>(
     requires share { 0 < blank.parts }
 {
     let store = file_blocks::<L>(dbd, file, blank)?;
-    copy_cached(alloc, dbd, store, stream, cache, progress, lines)
+    copy_ahead(alloc, dbd, store, stream, cache, progress, lines)
 }
 
 /// As `copy_blocks`, with a ledger of its own.
