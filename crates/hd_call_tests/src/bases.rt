@@ -191,7 +191,7 @@ fn volume_of(alloc: Global, dbd: &Dbd, rows: &[u8], width: usize, largest: u32) 
         growths: 0,
         refused: u32::MAX,
     };
-    match reload(alloc, dbd, &stream, store, largest) {
+    match reload(alloc, dbd, &stream, store, largest, 3) {
         Ok(made) => Some(made.store.bytes),
         Err(_) => None,
     }

@@ -11,8 +11,8 @@ use hd_dbd::{Pcb, Refused, Status, status_text};
 use hd_forest::Path;
 use hd_get::{Get, Outcome, get};
 use hd_position::Position;
-use hd_session::{Accepted, accept};
-use hd_ssa::loads;
+use hd_session::{function_of, last_test};
+use hd_ssa::{ResolvedSsa, SsaFault, loads, resolve};
 use hd_update::{dlet, isrt, load_row, repl};
 use std::alloc::Global;
 
@@ -22,16 +22,16 @@ fn update(
     positions: &mut [Position; 3],
     number: usize,
     pcb: &Pcb,
-    accepted: &Accepted<'_>,
+    function: Function,
+    ssas: &[ResolvedSsa<'_>],
     area: &[u8],
 ) -> Result<Outcome, Refused>
     requires number { (0 < number) × (number ≤ 3) }
-    requires arguments { accepted.now.function ≡ Function.Insert → AreInsertArguments trial.old.dbd.now.types accepted.now.ssas }
+    requires arguments { function ≡ Function.Insert → AreInsertArguments trial.old.dbd.now.types ssas.now }
 {
     let dbd = trial.dbd;
-    let ssas = accepted.ssas.ssas();
     let volume = &mut trial.volume;
-    match accepted.function {
+    match function {
         Function::Replace => {
             if positions[number - 1].held().as_slice().is_empty() {
                 return Err(Refused::Broken);
@@ -56,6 +56,12 @@ fn update(
     }
 }
 
+/// What a call comes to that failed a test.
+fn failed(position: &mut Position, status: Status) -> Outcome {
+    position.unhold();
+    Outcome::Missing(status)
+}
+
 /// A call of a PCB: its tests, and its own work.
 fn call(
     alloc: Global,
@@ -76,15 +82,19 @@ fn call(
         return Err(Refused::Memory);
     };
     let position = &mut positions[number - 1];
-    let accepted = match accept(alloc, &mut trial.volume, dbd, pcb, position, func, &texts)? {
-        Ok(accepted) => accepted,
-        Err(status) => {
-            position.unhold();
-            return Ok(Outcome::Missing(status));
-        }
+    let Some(function) = function_of(func) else {
+        return Ok(failed(position, Status::AD));
     };
-    if let Function::Get(kind, hold) = accepted.function {
-        let ssas = accepted.ssas.ssas();
+    let resolved = match resolve(alloc, function, &texts, pcb, dbd) {
+        Ok(resolved) => resolved,
+        Err(SsaFault::Status(status)) => return Ok(failed(position, status)),
+        Err(SsaFault::Memory) => return Err(Refused::Memory),
+    };
+    let ssas = resolved.ssas();
+    if let Some(status) = last_test(&mut trial.volume, dbd, pcb, position, function, ssas)? {
+        return Ok(failed(position, status));
+    }
+    if let Function::Get(kind, hold) = function {
         let call = Get {
             pcb,
             kind,
@@ -93,7 +103,7 @@ fn call(
         };
         return get(&mut trial.volume, dbd, &call, position);
     }
-    update(trial, positions, number, pcb, &accepted, area)
+    update(trial, positions, number, pcb, function, ssas, area)
 }
 
 /// What a call comes to, or a search by its word, and the path where its PCB then is, or that was found. `Broken` says that a get or an ISRT does not leave

@@ -7,7 +7,8 @@ use crate::trial::WHOLE;
 use std::alloc::Global;
 
 /// Lists whose parts begin with `#` and how many accesses their calls take behind those of the first part, or from how many to how many: one for each block
-/// that they come to, of rows or of the index. A part begins anew.
+/// that they come to, of rows or of the index, but those that are in memory: four, of which those not in hand stand in
+/// slots by their numbers, so that one that is come to again is read again where its slot has another. A part begins anew.
 const COUNTED: &[u8] =
     b"W200;G:1234:first the last rows are come to, so that no other of the four blocks in memory has a row that is sought
 1 read/54/55;;  54/55
@@ -28,9 +29,9 @@ const COUNTED: &[u8] =
 1 seek/CLASS   (ED      EQ03)/STUD    ;;  1/6/7
 #4
 1 name/CLASS   (ED      EQ03)/STUD    ;;  1/6/7
-#6:a key that no class has: the index, the course, three classes, and the next course, whose key is greater too
+#6/7:a key that no class has: the index, the course, three classes, the course again where its slot has a class, and the next course, whose key is greater too
 1 seek/COURSE  (NUM     EQ101)/CLASS   (ED      EQ04);;  0
-#6
+#6/7
 1 name/COURSE  (NUM     EQ101)/CLASS   (ED      EQ04);;  0
 #3:the index, the course, its first book
 1 seek/COURSE  (NUM     EQ205)/BOOK    ;;  20/37
@@ -54,14 +55,14 @@ const COUNTED: &[u8] =
 #4
 1 GU  /COURSE  (NUM     EQ205);;  20
 1 GNP /BOOK    *L;;  20/38
-#53/60:a walk comes to each of the 57 rows, four of which are in memory, and to each course again behind its classes; a class is in memory behind its three students, and a course behind its two books
+#53/75:a walk comes to each of the 57 rows, four of which are in memory, to each of the twelve classes again behind its students, and to each course behind its classes and behind its books
 1 GN  ;;  1,  1/2,  1/2/3,  1/2/4,  1/2/5,GA1/6,  1/6/7,  1/6/8,  1/6/9,GA1/10,  1/10/11,  1/10/12,  1/10/13,GA1/14,  1/14/15,  1/14/16,  1/14/17,GA1/18,  1/19
 1 GN  ;;GA20,  20/21,  20/21/22,  20/21/23,  20/21/24,GA20/25,  20/25/26,  20/25/27,  20/25/28,GA20/29,  20/29/30,  20/29/31,  20/29/32,GA20/33,  20/33/34,  20/33/35,  20/33/36,GA20/37,  20/38
 1 GN  ;;GA39,  39/40,  39/40/41,  39/40/42,  39/40/43,GA39/44,  39/44/45,  39/44/46,  39/44/47,GA39/48,  39/48/49,  39/48/50,  39/48/51,GA39/52,  39/52/53,  39/52/54,  39/52/55,GA39/56,  39/57,GB0
 %W200;G:14:students are off the way to what is seen
 1 read/54/55;;  54/55
 1 read/56/57;;  56/57
-#19/24:three courses, twelve classes and six books, two of which are in memory, and each course again behind its classes
+#19/27:three courses, twelve classes and six books, two of which are in memory, and each course again behind its classes and behind its books
 1 GN  ;;  1,  1/18,  1/19,GA20,  20/37,  20/38,GA39,  39/56,  39/57,GB0
 %F64;G:1234:where each course and its rows have one block, a walk reads each block once; the last is in memory at first
 1 read/46/50;;  46/50

@@ -9,10 +9,10 @@ use crate::trial::{
 use std::process::Abort;
 
 /// The act comes to its end, and prints just the lines of its row; where there are none it changes nothing. The letters of its accesses.
-fn expect_done<R: AllocGlobal + Abort>(rt: &R, bench: &Bench<'_>, cache: usize) -> Vec<u8> {
+fn expect_done<R: AllocGlobal + Abort>(rt: &R, bench: &Bench<'_>, kept: usize) -> Vec<u8> {
     let row = bench.row;
     let refusing = Refusing {
-        cache,
+        kept,
         ..nothing(row.act)
     };
     let made = outcome(rt.alloc(), bench, refusing).expect(rt, "memory");
@@ -70,15 +70,11 @@ fn expect_told<R: AllocGlobal + Abort>(rt: &R, bench: &Bench<'_>, made: &Told) -
 }
 
 /// Each access of the act fails in turn. The calls in which one did, each with the letter of the access.
-fn refuse_each<R: AllocGlobal + Abort>(
-    rt: &R,
-    bench: &Bench<'_>,
-    cache: usize,
-) -> Vec<(usize, u8)> {
-    let log = expect_done(rt, bench, cache);
+fn refuse_each<R: AllocGlobal + Abort>(rt: &R, bench: &Bench<'_>, kept: usize) -> Vec<(usize, u8)> {
+    let log = expect_done(rt, bench, kept);
     let mut told = Vec::new(rt.alloc());
     let mut refusing = Refusing {
-        cache,
+        kept,
         ..nothing(bench.row.act)
     };
     for (passes, letter) in log.iter().enumerate() {
@@ -96,14 +92,14 @@ fn refuse_each<R: AllocGlobal + Abort>(
 fn tells_of_each_access_that_fails(rt: HostRuntime) {
     for (number, row) in ROWS.iter().enumerate() {
         let bench = bench_of(rt.alloc(), row).expect(&rt, "a volume");
-        let plain = refuse_each(&rt, &bench, 0);
-        let behind = refuse_each(&rt, &bench, 2);
-        let [least, least_behind] = row.in_calls;
+        let plain = refuse_each(&rt, &bench, 3);
+        let wider = refuse_each(&rt, &bench, 5);
+        let [least, least_wider] = row.in_calls;
         assert!(rt;
-            plain.len() >= least && behind.len() >= least_behind,
+            plain.len() >= least && wider.len() >= least_wider,
             "row {number}: {} and {}",
             plain.len(),
-            behind.len()
+            wider.len()
         );
         let is_met = are_told(&plain, row.calls, b'r') && are_told(&plain, row.calls, b'w');
         assert!(rt; is_met, "row {number}: {plain:?}");

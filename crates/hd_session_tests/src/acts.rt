@@ -62,13 +62,14 @@ fn judge<S: BlockStore + Drop>(
     alloc: Global,
     dbd: &Dbd,
     act: Act,
+    kept: usize,
     store: S,
     out: &mut Page<'_>,
     err: &mut Page<'_>,
 ) -> Option<(S, End)>
     requires size { S.size store ≡ dbd.now.block_size }
 {
-    let mut volume = match Volume::load(alloc, store, dbd) {
+    let mut volume = match Volume::load_keeping(alloc, store, dbd, kept) {
         Ok(volume) => volume,
         Err((store, refused)) => {
             let ended = refuse(Refusal::of_refused(refused), err);
@@ -112,6 +113,7 @@ fn play<S: BlockStore + Drop>(
     dbd: &Dbd,
     psb: &Psb,
     deck: &[u8],
+    kept: usize,
     store: S,
     out: &mut Page<'_>,
     err: &mut Page<'_>,
@@ -120,7 +122,7 @@ fn play<S: BlockStore + Drop>(
     requires matches { psb.now.made_for ≡ type_names dbd.now.types }
 {
     let steps = steps_of(alloc, deck, psb)?;
-    let (store, played) = play_deck(alloc, dbd, psb, &steps, store, out, err);
+    let (store, played) = play_deck(alloc, dbd, psb, kept, &steps, store, out, err);
     let end = match played {
         Ok(memory) => End::Status(status_of_calls(memory), true),
         Err(ended) => End::Status(ended.status, ended.told),
@@ -134,6 +136,7 @@ fn run_calls<S: BlockStore + Drop>(
     dbd: &Dbd,
     psb: &Psb,
     deck: &[u8],
+    kept: usize,
     store: S,
     out: &mut Page<'_>,
 ) -> Option<(S, End)>
@@ -141,7 +144,7 @@ fn run_calls<S: BlockStore + Drop>(
     requires matches { psb.now.made_for ≡ type_names dbd.now.types }
 {
     let steps = steps_of(alloc, deck, psb)?;
-    match run(alloc, store, dbd, psb, &steps, out) {
+    match run(alloc, store, dbd, psb, kept, &steps, out) {
         Ok(end) => Some((end.store, End::Status(status_of_calls(end.memory), true))),
         Err((store, RunFault::Device | RunFault::Open(OpenFault::Device))) => Some((
             store,
@@ -152,13 +155,14 @@ fn run_calls<S: BlockStore + Drop>(
     }
 }
 
-/// Does what is asked over a store of which no contract says anything. `None` where there is no memory for it, or where what is given is refused.
+/// Does what is asked over a store of which no contract says anything, with so many blocks of a volume kept in memory. `None` where there is no memory for it, or where what is given is refused.
 pub fn perform<S: BlockStore + Drop>(
     alloc: Global,
     dbd: &Dbd,
     psb: &Psb,
     act: Act,
     given: &[u8],
+    kept: usize,
     store: S,
     out: &mut Page<'_>,
     err: &mut Page<'_>,
@@ -169,18 +173,20 @@ pub fn perform<S: BlockStore + Drop>(
         return None;
     }
     match act {
-        Act::Check | Act::Unload => judge(alloc, dbd, act, store, out, err),
+        Act::Check | Act::Unload => judge(alloc, dbd, act, kept, store, out, err),
         Act::Reload => {
-            let (store, ended) = reload_store(alloc, dbd, given, store, 16, out, err);
+            let (store, ended) = reload_store(alloc, dbd, given, store, 16, kept, out, err);
             Some((store, End::Status(ended.status, ended.told)))
         }
-        Act::Deck => play(alloc, dbd, psb, given, store, out, err),
-        Act::Run => run_calls(alloc, dbd, psb, given, store, out),
+        Act::Deck => play(alloc, dbd, psb, given, kept, store, out, err),
+        Act::Run => run_calls(alloc, dbd, psb, given, kept, store, out),
         Act::Session { most, again } => {
             let steps = steps_of(alloc, given, psb)?;
             let steps = steps.get(..most).unwrap_or(&steps);
-            call_in_session(alloc, dbd, psb, steps, again, store, out)
+            call_in_session(alloc, dbd, psb, steps, again, kept, store, out)
         }
-        Act::Serve { is_slow, left } => serve_calls(alloc, dbd, psb, is_slow, left, store, out),
+        Act::Serve { is_slow, left } => serve_calls(
+            alloc, dbd, psb, is_slow, left, kept, store, out,
+        ),
     }
 }

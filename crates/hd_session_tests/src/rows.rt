@@ -126,8 +126,8 @@ const MOVE_LINES: &[u8] =
 16 1 GN   [  ] 02 BOOK     key=101 area=\\x008B.....................................................
 ";
 
-/// Each block is read at least once, as the volume is opened. At most four blocks are in hand then, and two more in a cache; each other one to which
-/// a call comes is read in a call.
+/// Each block is read at least once, as the volume is opened. At most five blocks are in memory then, and seven where five are kept; each other one to
+/// which a call comes is read in a call.
 pub const ROWS: &[Row] = &[
     // check, unload, and reload, in which each of four blocks is added and written
     Row {

@@ -75,6 +75,7 @@ pub fn serve_calls<S: BlockStore + Drop>(
     psb: &Psb,
     is_slow: bool,
     left: usize,
+    kept: usize,
     store: S,
     out: &mut Page<'_>,
 ) -> Option<(S, End)>
@@ -86,7 +87,15 @@ pub fn serve_calls<S: BlockStore + Drop>(
     let Ok(mut service) = Service::new(alloc, dbd, psb) else {
         return None;
     };
-    let (store, end) = match service.serve(alloc, Lasting::new(store), dbd, psb, &mut input, out) {
+    let (store, end) = match service.serve(
+        alloc,
+        Lasting::new(store),
+        dbd,
+        psb,
+        kept,
+        &mut input,
+        out,
+    ) {
         Ok(end) if end.ending == Ending::Input => (
             end.store,
             End::Status(status_of_calls(end.memory), true),

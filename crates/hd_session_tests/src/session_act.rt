@@ -108,6 +108,7 @@ pub fn call_in_session<S: BlockStore + Drop>(
     psb: &Psb,
     steps: &[Step],
     again: bool,
+    kept: usize,
     store: S,
     out: &mut Page<'_>,
 ) -> Option<(S, End)>
@@ -116,7 +117,7 @@ pub fn call_in_session<S: BlockStore + Drop>(
 {
     let mut io = IoArea::new(alloc, dbd).ok()?;
     let _count = psb.pcbs().len();
-    let volume = match Volume::load(alloc, store, dbd) {
+    let volume = match Volume::load_keeping(alloc, store, dbd, kept) {
         Ok(volume) => volume,
         Err((store, Refused::Device)) => return Some((store, End::Device)),
         Err(_) => return None,

@@ -98,7 +98,7 @@ pub fn bytes_of(alloc: Global, dbd: &Dbd, holds: Holds) -> Option<Vec<u8>> {
         Holds::Spread => spread_image().to_vec(alloc).ok(),
         Holds::Rows(stream) => {
             let store = MemStore::new(dbd.block_size() as usize, Vec::new(alloc));
-            let loaded = reload(alloc, dbd, stream, store, 16).ok()?;
+            let loaded = reload(alloc, dbd, stream, store, 16, 3).ok()?;
             Some(loaded.store.into_bytes())
         }
     }

@@ -7,7 +7,7 @@ use crate::streams::Page;
 use hd_check::{CheckFault, check};
 use hd_dbd::{Dbd, Psb};
 use hd_gen::{read_dbd, read_psb};
-use hd_stores::{Cached, FuseStore, MemStore};
+use hd_stores::{FuseStore, MemStore};
 use hd_volume::Volume;
 use std::alloc::Global;
 use std::cell::Cell;
@@ -23,7 +23,7 @@ pub struct Row {
     pub lines: &'static [u8],
     /// How many accesses, or growths, it makes at least.
     pub least: usize,
-    /// How many accesses at least fail in a call: plain, and behind a cache of two blocks.
+    /// How many accesses at least fail in a call: where three blocks are kept in memory, and where five are.
     pub in_calls: [usize; 2],
     /// The calls, by number, in which a read and a write must be refused, or a growth.
     pub calls: &'static [usize],
@@ -56,8 +56,8 @@ pub fn bench_of(alloc: Global, row: &Row) -> Option<Bench<'_>> {
 #[derive(Clone, Copy)]
 pub struct Refusing {
     pub act: Act,
-    /// The blocks of the cache over the store; 0 is none.
-    pub cache: usize,
+    /// How many blocks of a volume are kept in memory.
+    pub kept: usize,
     /// How many accesses pass before the one that fails.
     pub passes: u64,
     /// The growth that finds no memory.
@@ -70,7 +70,7 @@ pub struct Refusing {
 pub fn nothing(act: Act) -> Refusing {
     Refusing {
         act,
-        cache: 0,
+        kept: 3,
         passes: u64::MAX,
         growth: u32::MAX,
         room: [usize::MAX; 2],
@@ -81,7 +81,7 @@ pub fn nothing(act: Act) -> Refusing {
 #[derive(Drop)]
 pub struct Told {
     pub end: End,
-    /// Whether a failed access was told, by the act or by the last writes of the cache.
+    /// Whether a failed access was told by the act.
     pub is_told: bool,
     pub out: Vec<u8>,
     pub err: Vec<u8>,
@@ -89,28 +89,6 @@ pub struct Told {
     pub bytes: Vec<u8>,
     pub log: Vec<u8>,
     pub growths: u32,
-}
-
-/// The act over a store, or over a cache of it: how it ended, and whether the cache's last writes told of a failed access.
-fn behind(
-    alloc: Global,
-    bench: &Bench<'_>,
-    refusing: Refusing,
-    fuse: FuseStore<Sparing>,
-    out: &mut Page<'_>,
-    err: &mut Page<'_>,
-) -> Option<(FuseStore<Sparing>, End, bool)> {
-    let (dbd, psb, given) = (&bench.dbd, &bench.psb, bench.row.given);
-    if refusing.cache == 0 {
-        let (fuse, end) = perform(alloc, dbd, psb, refusing.act, given, fuse, out, err)?;
-        return Some((fuse, end, false));
-    }
-    let Ok(cached) = Cached::new(alloc, fuse, refusing.cache.clamp(1, 65536)) else {
-        return None;
-    };
-    let (cached, end) = perform(alloc, dbd, psb, refusing.act, given, cached, out, err)?;
-    let (fuse, written) = cached.into_store();
-    Some((fuse, end, written.is_err()))
 }
 
 /// What comes of an act where something is refused; `None` where there is no memory for it.
@@ -122,7 +100,18 @@ pub fn outcome(alloc: Global, bench: &Bench<'_>, refusing: Refusing) -> Option<T
     let bytes = bench.bytes.to_vec(alloc).ok()?;
     let store = Sparing::new(alloc, bytes, refusing.growth);
     let fuse = FuseStore::new(store, refusing.passes);
-    let (fuse, end, is_lost) = behind(alloc, bench, refusing, fuse, &mut out, &mut err)?;
+    let (dbd, psb, given) = (&bench.dbd, &bench.psb, bench.row.given);
+    let (fuse, end) = perform(
+        alloc,
+        dbd,
+        psb,
+        refusing.act,
+        given,
+        refusing.kept,
+        fuse,
+        &mut out,
+        &mut err,
+    )?;
     let Sparing {
         bytes,
         log,
@@ -131,7 +120,7 @@ pub fn outcome(alloc: Global, bench: &Bench<'_>, refusing: Refusing) -> Option<T
     } = fuse.into_inner();
     Some(Told {
         end,
-        is_told: is_lost || matches!(end, End::Device | End::Status(3, true)),
+        is_told: matches!(end, End::Device | End::Status(3, true)),
         out: out.taken,
         err: err.taken,
         bytes,

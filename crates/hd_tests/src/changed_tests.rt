@@ -281,7 +281,7 @@ fn try_image(
             if image.get(8..10) == Some(&[0, 3]) {
                 let deck = some_calls(alloc, calls, changes.passed).ok()?;
                 let (fresh, _) = volume_of(alloc, dbd, &stream)?;
-                let one = play(alloc, dbd, psb, image, &deck, 2)?;
+                let one = play(alloc, dbd, psb, image, &deck, 64)?;
                 let other = play(alloc, dbd, psb, &fresh, &deck, 0)?;
                 wrong = fault_of_both(alloc, dbd, psb, &one, &other)?;
                 changes.played = changes.played.saturating_add(1);

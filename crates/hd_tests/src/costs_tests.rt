@@ -45,7 +45,8 @@ const DATABASES: &[u8] = b"  DBD NAME=EDU,ACCESS=HIDAM
          PSBGEN
 ";
 
-/// A line with a sign of percent has the database; how many blocks its volume has, or 0 where that is not asked; and the records. The lines below it are cases: a deck, and
+/// A line with a sign of percent has the database; how many blocks its volume has, or 0 where that is not asked; the records; and how many blocks are kept in memory, or the
+/// fewest. The lines below it are cases: a deck, and
 /// a longer one; and the least and the most accesses that this makes beyond those of the first, with so many more for each block and for each level of the index.
 ///
 /// A REPL of a row that stays in its place writes one block. A longer one moves the row: the blocks of the twin before, of the twin behind and of the new place are read
@@ -54,53 +55,53 @@ const DATABASES: &[u8] = b"  DBD NAME=EDU,ACCESS=HIDAM
 /// twin backward the twins before are read: the parent names the first of them, and each names the next.
 ///
 /// A DLET goes through its span a few times. A walk reads each block about once, for the keys of the rows above are known from call to call.
-const CASES: &[u8] = b"%0;0;1,1,8,101ALGEB/2,1,4,01AB/3,50,6,ADAM01/2,1,4,02CD
+const CASES: &[u8] = b"%0;0;1,1,8,101ALGEB/2,1,4,01AB/3,50,6,ADAM01/2,1,4,02CD;64
 L     GHU  COURSE  (NUM     EQ101)/C          CLASS   (ED      EQ01);L     GHU  COURSE  (NUM     EQ101)/C          CLASS   (ED      EQ01)/L     REPL/D01XY;1;1
 L     GHU  COURSE  (NUM     EQ101)/C          CLASS   (ED      EQ01);L     GHU  COURSE  (NUM     EQ101)/C          CLASS   (ED      EQ01)/L     DLET;0;10;4
-%0;0;1,1,8,101ALGEB/2,1,4,01AB/3,100,6,ADAM01/2,1,4,02CD
+%0;0;1,1,8,101ALGEB/2,1,4,01AB/3,100,6,ADAM01/2,1,4,02CD;64
 L     GHU  COURSE  (NUM     EQ101)/C          CLASS   (ED      EQ01);L     GHU  COURSE  (NUM     EQ101)/C          CLASS   (ED      EQ01)/L     DLET;0;10;4
-%0;0;1,1,8,101ALGEB/2,1,4,01AB/3,200,6,ADAM01/2,1,4,02CD
+%0;0;1,1,8,101ALGEB/2,1,4,01AB/3,200,6,ADAM01/2,1,4,02CD;64
 L     GHU  COURSE  (NUM     EQ101)/C          CLASS   (ED      EQ01);L     GHU  COURSE  (NUM     EQ101)/C          CLASS   (ED      EQ01)/L     DLET;0;10;4
-%0;0;1,1,8,101ALGEB/2,1,4,01AB/3,400,6,ADAM01/2,1,4,02CD
+%0;0;1,1,8,101ALGEB/2,1,4,01AB/3,400,6,ADAM01/2,1,4,02CD;64
 L     GHU  COURSE  (NUM     EQ101)/C          CLASS   (ED      EQ01);L     GHU  COURSE  (NUM     EQ101)/C          CLASS   (ED      EQ01)/L     DLET;0;10;4
 %0;717;1,1,8,101ALGEB/2,1,4,01AB/3,5000,6,ADAM01
 ;L5002 GN;700;750
 ;L     GHU  COURSE  (NUM     EQ101)/C          CLASS   (ED      EQ01)/C          STUD    /L     REPL/DADAM99/L     GHU  COURSE  (NUM     EQ101)/C          CLASS   (ED      EQ01)/C          STUD    /L     DLET;0;100
-%1;0;1~,1,45,0001/2~,50,53,
+%1;0;1~,1,45,0001/2~,50,53,;64
 L  25 GHN  BOOK    ;L  25 GHN  BOOK    /L     REPL/H0035/D...................................................;1;1
 L  25 GHN  BOOK    ;L  25 GHN  BOOK    /L     REPL/H001e/D............................;1;1
 L  25 GHN  BOOK    ;L  25 GHN  BOOK    /L     REPL/H0036/D....................................................;1;1
 L  25 GHN  BOOK    ;L  25 GHN  BOOK    /L     REPL/H003e/D............................................................;0;8
 L     GHU  COURSE  /C          BOOK    *L/L     DLET/L     GU   COURSE  /L  25 GHN  BOOK    ;L     GHU  COURSE  /C          BOOK    *L/L     DLET/L     GU   COURSE  /L  25 GHN  BOOK    /L     REPL/H003e/D............................................................;0;7
-%2;0;1~,1,45,0001/2~,50,53,
+%2;0;1~,1,45,0001/2~,50,53,;64
 L  25 GHN  BOOK    ;L  25 GHN  BOOK    /L     REPL/H003e/D............................................................;0;33
-%1;0;1~,1,45,0001/2~,500,53,
+%1;0;1~,1,45,0001/2~,500,53,;64
 L 250 GHN  BOOK    ;L 250 GHN  BOOK    /L     REPL/H0035/D...................................................;1;1
 L 250 GHN  BOOK    ;L 250 GHN  BOOK    /L     REPL/H001e/D............................;1;1
 L 250 GHN  BOOK    ;L 250 GHN  BOOK    /L     REPL/H0036/D....................................................;1;1
 L 250 GHN  BOOK    ;L 250 GHN  BOOK    /L     REPL/H003e/D............................................................;0;8
 L     GHU  COURSE  /C          BOOK    *L/L     DLET/L     GU   COURSE  /L 250 GHN  BOOK    ;L     GHU  COURSE  /C          BOOK    *L/L     DLET/L     GU   COURSE  /L 250 GHN  BOOK    /L     REPL/H003e/D............................................................;0;7
-%2;0;1~,1,45,0001/2~,500,53,
+%2;0;1~,1,45,0001/2~,500,53,;64
 L 250 GHN  BOOK    ;L 250 GHN  BOOK    /L     REPL/H003e/D............................................................;0;258
-%1;0;1~,1,45,0001/2~,5000,53,
+%1;0;1~,1,45,0001/2~,5000,53,;64
 L2500 GHN  BOOK    ;L2500 GHN  BOOK    /L     REPL/H0035/D...................................................;1;1
 L2500 GHN  BOOK    ;L2500 GHN  BOOK    /L     REPL/H001e/D............................;1;1
 L2500 GHN  BOOK    ;L2500 GHN  BOOK    /L     REPL/H0036/D....................................................;1;1
 L2500 GHN  BOOK    ;L2500 GHN  BOOK    /L     REPL/H003e/D............................................................;0;8
 L     GHU  COURSE  /C          BOOK    *L/L     DLET/L     GU   COURSE  /L2500 GHN  BOOK    ;L     GHU  COURSE  /C          BOOK    *L/L     DLET/L     GU   COURSE  /L2500 GHN  BOOK    /L     REPL/H003e/D............................................................;0;7
-%2;0;1~,1,45,0001/2~,5000,53,
+%2;0;1~,1,45,0001/2~,5000,53,;64
 L2500 GHN  BOOK    ;L2500 GHN  BOOK    /L     REPL/H003e/D............................................................;0;2508
-%1;0;1~,50,45,####
+%1;0;1~,50,45,####;64
 L     GHU  COURSE  (NUM     EQ0025);L     GHU  COURSE  (NUM     EQ0025)/L     REPL/H002d/D0025.......................................;1;1
 L     GHU  COURSE  (NUM     EQ0025);L     GHU  COURSE  (NUM     EQ0025)/L     REPL/H001e/D0025........................;1;1
 L     GHU  COURSE  (NUM     EQ0025);L     GHU  COURSE  (NUM     EQ0025)/L     REPL/H002e/D0025........................................;1;1
 L     GHU  COURSE  (NUM     EQ0025);L     GHU  COURSE  (NUM     EQ0025)/L     REPL/H003e/D0025........................................................;0;9;;1
-%1;0;1~,500,45,####
+%1;0;1~,500,45,####;64
 L     GHU  COURSE  (NUM     EQ0250);L     GHU  COURSE  (NUM     EQ0250)/L     REPL/H002d/D0250.......................................;1;1
 L     GHU  COURSE  (NUM     EQ0250);L     GHU  COURSE  (NUM     EQ0250)/L     REPL/H001e/D0250........................;1;1
 L     GHU  COURSE  (NUM     EQ0250);L     GHU  COURSE  (NUM     EQ0250)/L     REPL/H002e/D0250........................................;1;1
 L     GHU  COURSE  (NUM     EQ0250);L     GHU  COURSE  (NUM     EQ0250)/L     REPL/H003e/D0250........................................................;0;9;;1
-%1;0;1~,5000,45,####
+%1;0;1~,5000,45,####;64
 L     GHU  COURSE  (NUM     EQ2500);L     GHU  COURSE  (NUM     EQ2500)/L     REPL/H002d/D2500.......................................;1;1
 L     GHU  COURSE  (NUM     EQ2500);L     GHU  COURSE  (NUM     EQ2500)/L     REPL/H001e/D2500........................;1;1
 L     GHU  COURSE  (NUM     EQ2500);L     GHU  COURSE  (NUM     EQ2500)/L     REPL/H002e/D2500........................................;1;1
@@ -114,9 +115,16 @@ fn has_done(line: &[u8]) -> bool {
 }
 
 /// The accesses that a deck makes; `None` where a call is not answered with blanks, GA or GK.
-fn accesses(alloc: Global, dbd: &Dbd, psb: &Psb, image: &[u8], lines: &[u8]) -> Option<u64> {
+fn accesses(
+    alloc: Global,
+    dbd: &Dbd,
+    psb: &Psb,
+    image: &[u8],
+    kept: usize,
+    lines: &[u8],
+) -> Option<u64> {
     let deck = deck_of(alloc, lines).ok()?;
-    let played = play(alloc, dbd, psb, image, &deck, 0)?;
+    let played = play(alloc, dbd, psb, image, &deck, kept)?;
     let done = played
         .lines
         .split(|byte| *byte == b'\n')
@@ -136,10 +144,11 @@ fn cost_of(
     psb: &Psb,
     image: &[u8],
     blocks: u32,
+    kept: usize,
     case: &[u8],
 ) -> Option<(u64, bool)> {
-    let before = accesses(alloc, dbd, psb, image, part(case, b';', 0))?;
-    let behind = accesses(alloc, dbd, psb, image, part(case, b';', 1))?;
+    let before = accesses(alloc, dbd, psb, image, kept, part(case, b';', 0))?;
+    let behind = accesses(alloc, dbd, psb, image, kept, part(case, b';', 1))?;
     let cost = behind.saturating_sub(before);
     let levels = u64::from(image.get(43).copied().unwrap_or(0));
     let most = asked(case, 3)
@@ -155,12 +164,13 @@ fn wrong_of(alloc: Global, cases: &'static [u8]) -> Option<(u64, &'static [u8])>
     let stream = stream_of(alloc, &dbd, part(given, b';', 2)).ok()?;
     let (image, blocks) = volume_of(alloc, &dbd, &stream)?;
     let wanted = asked(given, 1);
+    let kept = asked(given, 3) as usize;
     if wanted != 0 && wanted != u64::from(blocks) {
         return Some((u64::from(blocks), given));
     }
     for case in cases.split(|byte| *byte == b'\n').skip(1) {
         if !case.is_empty() {
-            let (cost, is_right) = cost_of(alloc, &dbd, &psb, &image, blocks, case)?;
+            let (cost, is_right) = cost_of(alloc, &dbd, &psb, &image, blocks, kept, case)?;
             if !is_right {
                 return Some((cost, case));
             }
@@ -180,7 +190,7 @@ fn calls_make_few_accesses(rt: HostRuntime) -> Result<(), Fail> {
 }
 
 #[test]
-fn a_cache_of_all_blocks_reads_each_once(rt: HostRuntime) -> Result<(), Fail> {
+fn a_volume_that_keeps_all_blocks_reads_each_once(rt: HostRuntime) -> Result<(), Fail> {
     let alloc = rt.alloc();
     let (dbd, psb) = base_of(alloc, part(DATABASES, b'%', 0)).expect(&rt, "a database");
     let stream = stream_of(alloc, &dbd, b"1,1,8,101ALGEB/2,1,4,01AB/3,5000,6,ADAM01")?;

@@ -2,7 +2,7 @@
 
 use hd_dbd::{Dbd, Psb};
 use hd_deck::{read_deck, run};
-use hd_stores::{BlockStore, Cached, FuseStore, MemStore};
+use hd_stores::{BlockStore, FuseStore, MemStore};
 use hd_unload::reload;
 use std::alloc::Global;
 
@@ -20,7 +20,7 @@ pub struct Played {
 /// The bytes of a volume of the rows of a stream, and how many blocks it has.
 pub fn volume_of(alloc: Global, dbd: &Dbd, stream: &[u8]) -> Option<(Vec<u8>, u32)> {
     let store = MemStore::new(dbd.block_size() as usize, Vec::new(alloc));
-    let reloaded = reload(alloc, dbd, stream, store, 65536).ok()?;
+    let reloaded = reload(alloc, dbd, stream, store, 65536, 64).ok()?;
     Some((reloaded.store.into_bytes(), reloaded.blocks))
 }
 
@@ -30,6 +30,7 @@ fn run_over<S: BlockStore + Drop>(
     dbd: &Dbd,
     psb: &Psb,
     store: S,
+    kept: usize,
     deck: &[u8],
     lines: &mut Vec<u8>,
 ) -> Option<S> {
@@ -40,35 +41,25 @@ fn run_over<S: BlockStore + Drop>(
     if store.block_size() != dbd.block_size() as usize {
         return None;
     }
-    let Ok(end) = run(alloc, store, dbd, psb, &steps, lines) else {
+    let Ok(end) = run(alloc, store, dbd, psb, kept, &steps, lines) else {
         return None;
     };
     Some(end.store)
 }
 
-/// Plays a deck over the bytes of a volume, below a cache of so many blocks, or of none.
+/// Plays a deck over the bytes of a volume, of which so many blocks are kept in memory.
 pub fn play(
     alloc: Global,
     dbd: &Dbd,
     psb: &Psb,
     image: &[u8],
     deck: &[u8],
-    blocks: usize,
+    kept: usize,
 ) -> Option<Played> {
     let store = MemStore::new(dbd.block_size() as usize, image.to_vec(alloc).ok()?);
     let plain = FuseStore::new(store, u64::MAX);
     let mut lines = Vec::new(alloc);
-    let left = if blocks == 0 {
-        run_over(alloc, dbd, psb, plain, deck, &mut lines)?
-    } else {
-        let Ok(cached) = Cached::new(alloc, plain, blocks.clamp(1, 65536)) else {
-            return None;
-        };
-        let cached = run_over(alloc, dbd, psb, cached, deck, &mut lines)?;
-        let (store, written) = cached.into_store();
-        written.ok()?;
-        store
-    };
+    let left = run_over(alloc, dbd, psb, plain, kept, deck, &mut lines)?;
     let accesses = left.accesses();
     let image = left.into_inner().into_bytes();
     Some(Played {

@@ -77,7 +77,7 @@ pub fn over<S: BlockStore + Drop, W: Write>(
     requires size { S.size store ≡ dbd.now.block_size }
 {
     if work == b'r' {
-        return match reload(alloc, dbd, stream, store, 65536) {
+        return match reload(alloc, dbd, stream, store, 65536, 3) {
             Ok(made) => (Ok((made.segments, made.blocks)), made.store),
             Err((store, ReloadFault::Device)) => (Err(DEVICE), store),
             Err((store, _)) => (Err(UnloadFault::Changed), store),
