@@ -1,29 +1,30 @@
 #!/usr/bin/env python3
 """Measures hd, and SQLite beside it where sqlite3, its library and gcc are there.
 
-Each command is run three times, alternating with SQLite's, and the least time of the three is shown with the greatest behind it. Times are
-processor time in seconds, with the least time by the clock behind them, memory is the peak in MB, and accesses are the system's reads and writes of the volume, counted by
-strace in a run of its own. "scattered" has the rows of "deep", put in at random by calls.
-The time of a call, and the ratio beside it, leave out what "open" takes: a deck of one call, which checks the volume first. The time to read the
-deck is in them.
+It prints the table of docs/MEASURED.md. A turn runs each command of hd, and then SQLite's, so that a busy machine slows both: a ratio is that of one turn. Shown are
+medians over the turns, with the quartiles behind them in brackets. Times are processor time, memory is the peak (at least that of this script, some 16 MB), and accesses
+are the system's reads and writes of the volume, counted by strace in a run of its own. "scattered" has the rows of "deep", put in at random by calls.
+
+The time of a call leaves out what the same turn took to open the volume: a deck of one call, which checks it first; SQLite's likewise. The time to read the
+deck is in it. Where gcc is there, "limit" is a C program that has the rows of "deep" in arrays, reads the same deck and prints the same lines.
 
 With --instructions each command is run once more below valgrind, which counts instructions: these do not depend on what else the machine does.
 
-    bench/bench.py [SEGMENTS ..] [--shape NAME] [--calls N] [--instructions]
+    bench/bench.py [SEGMENTS ..] [--shape NAME] [--deck NAME] [--calls N] [--turns N] [--instructions]
 """
 import argparse
 import os
 import re
 import shutil
+import statistics
 import subprocess
 import sys
 import tempfile
-import time
 
 import shapes
 
-HD = os.path.join(os.path.dirname(os.path.abspath(__file__)), "..", "bin", "hd")
-RUNS = 3
+HERE = os.path.dirname(os.path.abspath(__file__))
+HD = os.environ.get("HD", os.path.join(HERE, "..", "bin", "hd"))
 SCHEMA = """pragma page_size=2048; pragma journal_mode=off; pragma synchronous=off;
 create table course(num text primary key, name text) without rowid;
 create table class(num text, ed text, data text, primary key(num, ed)) without rowid;
@@ -32,16 +33,16 @@ create table book(num text, place integer, title text, primary key(num, place)) 
 """
 
 
-def measured(words, **files):
-    """Processor time and peak memory of a command, and its time by the clock."""
-    opened = {name: open(path, "rb" if name == "stdin" else "wb") for name, path in files.items()}
-    start = time.monotonic()
-    process = subprocess.Popen(words, **{"stdout": subprocess.DEVNULL, **opened})
-    _, status, usage = os.wait4(process.pid, 0)
+def measured(words, out=None, **files):
+    """Processor time in seconds and peak memory of a command."""
+    opened = {name: open(path, "rb") for name, path in files.items()}
+    with open(out or os.devnull, "wb") as file:
+        process = subprocess.Popen(words, stdout=file, **opened)
+        _, status, usage = os.wait4(process.pid, 0)
     process.returncode = os.waitstatus_to_exitcode(status)
     if status != 0:
         sys.exit(f"{words}: status {process.returncode}")
-    return usage.ru_utime + usage.ru_stime, usage.ru_maxrss / 1024, time.monotonic() - start
+    return usage.ru_utime + usage.ru_stime, usage.ru_maxrss / 1024
 
 
 def apart(work):
@@ -58,7 +59,8 @@ def accesses(words, volume):
     """How often a command reads or writes the volume."""
     log = "strace.log"
     subprocess.run(["strace", "-f", "-y", "-o", log, "-e", "trace=pread64,pwrite64,read,write", *words], stdout=subprocess.DEVNULL, check=True)
-    count = sum(1 for line in open(log, errors="replace") if volume in line)
+    with open(log, errors="replace") as lines:
+        count = sum(1 for line in lines if volume in line)
     os.remove(log)
     return count
 
@@ -71,29 +73,88 @@ def instructions(words, **files):
     return int(re.search(r"Collected : (\d+)", told)[1])
 
 
+def spread(values, form):
+    """The median of some values, and their quartiles in brackets."""
+    low, middle, high = statistics.quantiles(values, n=4) if len(values) > 1 else values * 3
+    return f"{middle:{form}} ({low:{form}} to {high:{form}})"
+
+
+class Command:
+    """What one side runs, with the files that it reads, and what it took in each turn."""
+
+    def __init__(self, words, **files):
+        self.words, self.files, self.times, self.memory, self.counted = words, files, [], 0, 0
+
+    def take_turn(self):
+        time, memory = measured(self.words, **self.files)
+        self.times.append(time)
+        self.memory = max(self.memory, memory)
+
+    def count(self):
+        self.counted = instructions(self.words, **self.files)
+
+
 class Row:
-    """What was measured of one piece of work."""
+    """One piece of work, by hd and by the others beside it."""
 
-    def __init__(self, name, calls=0, opening=None):
-        """So many calls, behind an opening of the volume that was measured before."""
-        self.name, self.calls, self.opening, self.hd, self.wall, self.sqlite, self.memory, self.accesses = name, calls, opening, [], [], [], 0, 0
-        self.counted = [0, 0]
+    def __init__(self, name, hd, sqlite, volume, before, calls=0, limit=None):
+        """So many calls, where it is a deck; `before` is done before each run of a side."""
+        self.name, self.calls, self.volume, self.before = name, calls, volume, before
+        self.sides = {name: side for name, side in (("hd", hd), ("SQLite", sqlite), ("limit", limit)) if side}
+        self.accesses = None
 
-    def show(self):
-        text = f"{self.name:12} {min(self.hd):7.3f} to {max(self.hd):6.3f} s, clock {min(self.wall):6.3f} {self.memory:6.1f} MB {self.accesses:9} accesses"
-        least, other = min(self.hd), min(self.sqlite, default=0)
-        if self.opening:
-            least, other = least - min(self.opening.hd), other - min(self.opening.sqlite, default=0)
-            text += f" {1e6 * least / self.calls:7.2f} us a call"
-        if self.sqlite:
-            text += f"   SQLite {min(self.sqlite):6.2f} s, ratio {least / max(other, 0.001):5.2f}"
-        print(text, flush=True)
-        if any(self.counted):
-            before = self.opening.counted if self.opening else [0, 0]
-            hd, sqlite = (now - then for now, then in zip(self.counted, before))
-            each = f", {hd / self.calls:,.0f} a call" if self.opening else ""
-            other = f"   SQLite {sqlite:,}, ratio {hd / sqlite:5.2f}" if sqlite > 0 else ""
-            print(f"{'':12} {hd:,} instructions{each}{other}", flush=True)
+    def take_turn(self):
+        self.before()
+        for side in self.sides.values():
+            side.take_turn()
+
+    def count(self, has_instructions):
+        if shutil.which("strace"):
+            self.before()
+            self.accesses = accesses(self.sides["hd"].words, self.volume)
+        if has_instructions:
+            self.before()
+            for side in self.sides.values():
+                side.count()
+
+    def times(self, name, opening):
+        """What each turn took, without what that turn's opening did: seconds, or microseconds a call."""
+        if name not in self.sides:
+            return []
+        own = self.sides[name].times
+        if not opening:
+            return own
+        return [1e6 * (now - then) / self.calls for now, then in zip(own, opening.sides[name].times)]
+
+    def counts(self, name, opening):
+        """The instructions of a side, or those of a call, likewise."""
+        if name not in self.sides or not self.sides[name].counted:
+            return ""
+        count = self.sides[name].counted
+        return f"{(count - opening.sides[name].counted) / self.calls:,.0f}" if opening else f"{count:,}"
+
+    def show(self, opening):
+        """A line of the table; what an opening of the volume took is taken off."""
+        unit = " us" if opening else " s"
+        hd, sqlite, limit = (self.times(name, opening) for name in ("hd", "SQLite", "limit"))
+        ratios = [mine / max(its, 1e-6) for mine, its in zip(hd, sqlite)]
+        cells = [self.name, spread(hd, ".3f") + unit]
+        cells += [spread(sqlite, ".3f") + unit, spread(ratios, ".2f")] if sqlite else ["", ""]
+        cells.append(f"{statistics.median(limit):.3f}{unit}" if limit else "")
+        cells.append(" / ".join(filter(None, (self.counts(name, opening) for name in ("hd", "SQLite", "limit")))))
+        cells += [f"{self.accesses:,}" if self.accesses is not None else "", f"{self.sides['hd'].memory:.0f} MB"]
+        print(f"| {' | '.join(cells)} |", flush=True)
+
+
+def measure_rows(rows, words):
+    """Measures pieces of work in turns, and shows them; the first is the opening of those that are decks."""
+    for _ in range(words.turns):
+        for row in rows:
+            row.take_turn()
+    opening = rows[0] if rows[0].calls else None
+    for row in rows:
+        row.count(words.instructions)
+        row.show(opening if row is not opening else None)
 
 
 def import_sql(rows):
@@ -107,25 +168,6 @@ def import_sql(rows):
         file.write(text + "commit;\n")
 
 
-def play(row, hd, sqlite, volume, is_counted, before=lambda: None):
-    """Runs both in turn."""
-    for _ in range(RUNS):
-        before()
-        processor, memory, wall = measured(hd)
-        row.hd.append(processor)
-        row.wall.append(wall)
-        row.memory = max(row.memory, memory)
-        if sqlite:
-            row.sqlite.append(measured(*sqlite[0], **sqlite[1])[0])
-    before()
-    if shutil.which("strace"):
-        row.accesses = accesses(hd, volume)
-    if is_counted:
-        before()
-        row.counted = [instructions(hd), instructions(*sqlite[0], **sqlite[1]) if sqlite else 0]
-    row.show()
-
-
 def remove(*names):
     for name in names:
         if os.path.exists(name):
@@ -136,83 +178,113 @@ def write_rows(shape, segments):
     """The database, and the rows of a shape as a stream; those that are to lie scattered as a deck, beside a stream without rows."""
     is_scattered = shape == "scattered"
     rows = list(shapes.SHAPES["deep" if is_scattered else shape](segments))
-    print(f"{shape}, {len(rows)} segments", flush=True)
+    print(f"\n| {shape}, {len(rows):,} segments | hd | SQLite | ratio | limit | instructions of hd / SQLite / limit | accesses | memory |", flush=True)
+    print("|---|---|---|---|---|---|---|---|", flush=True)
     for name, text in (("b.dbd", shapes.DBD), ("b.psb", shapes.PSB)):
         with open(name, "w") as file:
             file.write(text)
     with open("b.stream", "wb") as file:
         file.write(shapes.stream([] if is_scattered else rows))
+    with open("b.rows", "wb") as file:
+        file.write(shapes.stream(rows))
     if is_scattered:
         with open("b.deck", "w") as file:
             file.write(shapes.scattered(segments))
     import_sql(rows)
 
 
-def write_deck(name, segments, calls):
-    text, made = shapes.deck(name, segments, calls)
-    with open("b.deck", "w") as file:
-        file.write(text)
-    with open("b.count", "w") as file:
-        file.write(str(made))
+def write_decks(shape, segments, calls):
+    """Each deck of a shape, and how many calls it has."""
+    for name in shapes.decks_of(shape):
+        text, made = shapes.deck(shape, name, segments, calls)
+        with open(f"{name}.deck", "w") as file:
+            file.write(text)
+        with open(f"{name}.count", "w") as file:
+            file.write(str(made))
 
 
-def measure(shape, segments, calls, has_sqlite, is_counted):
-    apart(lambda: write_rows(shape, segments))
-
-    def sqlite(*words, **files):
-        return ((["sqlite3", *words],), files) if has_sqlite else None
-
+def measure_commands(shape, words, has_sqlite):
     def fresh():
         remove("b.volume", "b.sqlite")
 
+    def sqlite(*given, **files):
+        return Command(["sqlite3", *given], **files) if has_sqlite else None
+
     reload = [HD, "reload", "b.dbd", "b.stream", "b.volume", "65536"]
+    rows = []
     if shape == "scattered":
         fresh()
         measured(reload)
         measured([HD, "deck", "--cache", "65536", "b.dbd", "b.psb", "b.volume", "b.deck"])
     else:
-        play(Row("reload"), reload, sqlite("b.sqlite", stdin="import.sql"), "b.volume", is_counted, fresh)
-    if has_sqlite and not os.path.exists("b.sqlite"):
+        measure_rows([Row("reload", Command(reload), sqlite("b.sqlite", stdin="import.sql"), "b.volume", fresh)], words)
+    if has_sqlite:
+        remove("b.sqlite")
         measured(["sqlite3", "b.sqlite"], stdin="import.sql")
-    play(Row("check"), [HD, "check", "b.dbd", "b.volume"], sqlite("b.sqlite", "pragma integrity_check"), "b.volume", is_counted)
     dump = "select * from course; select * from class; select * from stud; select * from book;"
-    play(Row("unload"), [HD, "unload", "b.dbd", "b.volume", "b.out"], sqlite("b.sqlite", dump), "b.volume", is_counted)
-    if shape == "deep":
-        opening = None
-        for name in shapes.DECKS:
-            apart(lambda: write_deck(name, segments, calls))
-            with open("b.count") as file:
-                made = int(file.read())
+    rows.append(Row("check", Command([HD, "check", "b.dbd", "b.volume"]), sqlite("b.sqlite", "pragma integrity_check"), "b.volume", lambda: None))
+    rows.append(Row("unload", Command([HD, "unload", "b.dbd", "b.volume", "b.out"]), sqlite("b.sqlite", dump), "b.volume", lambda: remove("b.out")))
+    measure_rows(rows, words)
 
-            def again():
-                shutil.copy("b.volume", "c.volume")
-                if has_sqlite:
-                    shutil.copy("b.sqlite", "c.sqlite")
 
-            prepared = (([["./calls", "c.sqlite", "b.deck"]]), {}) if has_sqlite else None
-            row = Row(name, made, opening)
-            play(row, [HD, "deck", "b.dbd", "b.psb", "c.volume", "b.deck"], prepared, "c.volume", is_counted, again)
-            opening = opening or row
+def measure_calls(shape, segments, words, has_sqlite, has_limit):
+    apart(lambda: write_decks(shape, segments, words.calls))
+
+    def again():
+        for kind, copy in (("b.volume", "c.volume"), ("b.sqlite", "c.sqlite")):
+            if os.path.exists(kind):
+                shutil.copy(kind, copy)
+
+    rows = []
+    for name in shapes.decks_of(shape):
+        if name != "open" and words.deck and name not in words.deck:
+            continue
+        with open(f"{name}.count") as file:
+            made = int(file.read())
+        hd = Command([HD, "deck", "b.dbd", "b.psb", "c.volume", f"{name}.deck"])
+        sqlite = Command(["./calls", "c.sqlite", f"{name}.deck"]) if has_sqlite else None
+        limit = Command(["./limit", "b.rows", f"{name}.deck"]) if has_limit and name in ("open", *shapes.LIMITED) and shape in ("deep", "scattered") else None
+        if limit:
+            again()
+            compare(hd.words, limit.words)
+        rows.append(Row(name, hd, sqlite, "c.volume", again, made, limit))
+    measure_rows(rows, words)
+
+
+def compare(one, other):
+    """Both are to print the same lines."""
+    measured(one, out="one.lines")
+    measured(other, out="other.lines")
+    if subprocess.run(["cmp", "-s", "one.lines", "other.lines"], check=False).returncode:
+        sys.exit(f"{one} and {other} print other lines")
+
+
+def build(name, *libraries):
+    """Builds a C program that stands beside this script; says whether it did."""
+    if not shutil.which("gcc"):
+        return False
+    return subprocess.run(["gcc", "-O2", "-o", name, os.path.join(HERE, f"{name}.c"), *libraries], capture_output=True, check=False).returncode == 0
 
 
 def main():
     parser = argparse.ArgumentParser(description=__doc__.split("\n")[0])
-    parser.add_argument("segments", nargs="*", type=int, default=[10_000, 200_000, 1_000_000])
+    parser.add_argument("segments", nargs="*", type=int, default=[200_000, 1_000_000])
     all_shapes = [*shapes.SHAPES, "scattered"]
     parser.add_argument("--shape", choices=all_shapes, action="append")
+    parser.add_argument("--deck", action="append", help="one deck alone, as GU; may be given again")
     parser.add_argument("--calls", type=int, default=100_000)
+    parser.add_argument("--turns", type=int, default=9)
     parser.add_argument("--instructions", action="store_true")
     words = parser.parse_args()
     folder = tempfile.mkdtemp(prefix="hd-bench-")
-    source = os.path.dirname(os.path.abspath(__file__))
     os.chdir(folder)
-    has_sqlite = bool(shutil.which("sqlite3") and shutil.which("gcc"))
-    if has_sqlite:
-        built = subprocess.run(["gcc", "-O2", "-o", "calls", os.path.join(source, "calls.c"), "-lsqlite3"], capture_output=True)
-        has_sqlite = built.returncode == 0
+    has_sqlite = bool(shutil.which("sqlite3")) and build("calls", "-lsqlite3")
+    has_limit = build("limit")
     for segments in words.segments:
         for shape in words.shape or all_shapes:
-            measure(shape, segments, words.calls, has_sqlite, words.instructions)
+            apart(lambda: write_rows(shape, segments))
+            measure_commands(shape, words, has_sqlite)
+            measure_calls(shape, segments, words, has_sqlite, has_limit)
     shutil.rmtree(folder)
 
 

@@ -1,9 +1,18 @@
-/* The calls of the benchmark as prepared statements of SQLite, in one transaction: reads a deck, and prints a line for each call.
+/* The calls of the benchmark as prepared statements of SQLite, in one transaction: reads a deck, and prints a line for each row that is found.
  * Usage: calls DATABASE DECK. The deck is one that shapes.py writes: of the calls of one PCB, with keys in their places. */
 #include <sqlite3.h>
 #include <stdio.h>
 #include <stdlib.h>
 #include <string.h>
+
+enum { WIDTH = 300, MOST = 6 };
+
+/* A call of the deck: its arguments' types and the values behind their operators, NULL where they have none. */
+struct call {
+    char function[5], area[WIDTH], lines[MOST][WIDTH];
+    char *types[MOST], *values[MOST];
+    int repeat, arguments;
+};
 
 static sqlite3 *database;
 
@@ -20,29 +29,24 @@ static sqlite3_stmt *prepared(const char *text) {
     return statement;
 }
 
-/* The value of the argument on a line, behind its operator; NULL where it has none. */
-static char *value_of(char *line) {
-    char *bracket = strchr(line, '(');
-    if (bracket == NULL) return NULL;
-    bracket[strcspn(bracket, ")")] = 0;
-    return bracket + 11;
+static void bind(sqlite3_stmt *statement, int place, const char *text) {
+    must(sqlite3_bind_text(statement, place, text, -1, SQLITE_TRANSIENT));
 }
 
-static void bind(sqlite3_stmt *statement, int count, char *values[]) {
-    for (int i = 0; i < count; i++) must(sqlite3_bind_text(statement, i + 1, values[i], -1, SQLITE_STATIC));
-}
-
-/* Runs a statement, prints its rows, and says how many it had. */
-static long run(sqlite3_stmt *statement) {
-    long rows = 0;
+/* Runs a statement, and prints its rows. */
+static void run(sqlite3_stmt *statement) {
     int columns = sqlite3_column_count(statement);
     while (sqlite3_step(statement) == SQLITE_ROW) {
         for (int i = 0; i < columns; i++) fputs((const char *)sqlite3_column_text(statement, i), stdout);
         putchar('\n');
-        rows++;
     }
     must(sqlite3_reset(statement));
-    return rows;
+}
+
+/* Runs a statement with these values. */
+static void run_with(sqlite3_stmt *statement, int count, char *values[]) {
+    for (int i = 0; i < count; i++) must(sqlite3_bind_text(statement, i + 1, values[i], -1, SQLITE_STATIC));
+    run(statement);
 }
 
 /* All rows in hierarchic sequence. */
@@ -54,13 +58,13 @@ static void scan(void) {
     while (sqlite3_step(courses) == SQLITE_ROW) {
         const char *number = (const char *)sqlite3_column_text(courses, 0);
         printf("%s%s\n", number, sqlite3_column_text(courses, 1));
-        must(sqlite3_bind_text(classes, 1, number, -1, SQLITE_TRANSIENT));
-        must(sqlite3_bind_text(students, 1, number, -1, SQLITE_TRANSIENT));
-        must(sqlite3_bind_text(books, 1, number, -1, SQLITE_TRANSIENT));
+        bind(classes, 1, number);
+        bind(students, 1, number);
+        bind(books, 1, number);
         while (sqlite3_step(classes) == SQLITE_ROW) {
             const char *edition = (const char *)sqlite3_column_text(classes, 0);
             printf("%s%s\n", edition, sqlite3_column_text(classes, 1));
-            must(sqlite3_bind_text(students, 2, edition, -1, SQLITE_TRANSIENT));
+            bind(students, 2, edition);
             run(students);
         }
         must(sqlite3_reset(classes));
@@ -68,66 +72,120 @@ static void scan(void) {
     }
 }
 
+/* The dependents of a course. */
+static void below(char *number) {
+    static sqlite3_stmt *students, *books;
+    if (students == NULL) {
+        students = prepared("select ed, sname, grade from stud where num = ? order by ed, sname");
+        books = prepared("select title from book where num = ? order by place");
+    }
+    run_with(students, 1, &number);
+    run_with(books, 1, &number);
+}
+
+/* What a call does to the rows of the last argument's type. */
+struct work {
+    const char *type;
+    int keys;
+    const char *get, *insert, *replace, *delete[3];
+    sqlite3_stmt *statements[6];
+};
+
+static struct work works[] = {
+    {"COURSE", 1, "select name from course where num = ?", "insert into course values (substr(?1, 1, 7), substr(?1, 8))",
+     "update course set name = substr(?2, 8) where num = ?1",
+     {"delete from stud where num = ?", "delete from class where num = ?", "delete from course where num = ?"}, {0}},
+    {"CLASS", 2, "select data from class where num = ? and ed = ?", NULL, NULL,
+     {"delete from stud where num = ? and ed = ?", "delete from class where num = ? and ed = ?", NULL}, {0}},
+    {"STUD", 3, "select grade from stud where num = ? and ed = ? and sname = ?", "insert into stud values (?1, ?2, substr(?3, 1, 4), substr(?3, 5))",
+     "update stud set grade = substr(?4, 5) where num = ?1 and ed = ?2 and sname = ?3", {NULL, NULL, NULL}, {0}},
+    {"BOOK", 1, "select title from book where num = ? order by place desc limit 1",
+     "insert into book values (?1, (select coalesce(max(place), 0) + 1 from book where num = ?1), ?2)",
+     "update book set title = ?2 where num = ?1 and place = (select max(place) from book where num = ?1)",
+     {"delete from book where num = ?1 and place = (select max(place) from book where num = ?1)", NULL, NULL}, {0}},
+};
+
+static struct work *work_of(const char *type) {
+    for (size_t i = 0; i < sizeof works / sizeof *works; i++)
+        if (!strncmp(type, works[i].type, strlen(works[i].type))) return &works[i];
+    exit(64);
+}
+
+/* The statement of a text, which is prepared at its first call. */
+static sqlite3_stmt *statement_of(struct work *work, int place, const char *text) {
+    if (work->statements[place] == NULL) work->statements[place] = prepared(text);
+    return work->statements[place];
+}
+
+/* Finds the type and the value of the argument on a line. */
+static void read_argument(struct call *call, char *line) {
+    char *bracket = strchr(line, '(');
+    call->types[call->arguments] = line;
+    call->values[call->arguments] = NULL;
+    if (bracket != NULL) {
+        bracket[strcspn(bracket, ")")] = 0;
+        call->values[call->arguments] = bracket + 11;
+    }
+    call->arguments++;
+}
+
+/* Reads the call whose first line is in hand, and the first line behind it; says whether there is one. */
+static int read_call(FILE *deck, char *line, struct call *call) {
+    int have;
+    char count[5] = "";
+    line[strcspn(line, "\n")] = 0;
+    memcpy(count, line + 1, 4);
+    call->repeat = atoi(count);
+    call->arguments = 0;
+    call->area[0] = 0;
+    snprintf(call->function, sizeof call->function, "%-4.4s", line + 6);
+    if (strlen(line) > 11) read_argument(call, strcpy(call->lines[0], line + 11));
+    while ((have = fgets(line, WIDTH, deck) != NULL) && (line[0] == 'C' || line[0] == 'D')) {
+        line[strcspn(line, "\n")] = 0;
+        if (line[0] == 'C') read_argument(call, strcpy(call->lines[call->arguments], line + 11));
+        else strcpy(call->area, line + 1);
+    }
+    return have;
+}
+
 int main(int count, char *words[]) {
-    char line[6][300], *values[6];
+    char line[WIDTH];
+    static struct call call, held;
     if (count != 3) return 64;
     must(sqlite3_open(words[1], &database));
     FILE *deck = fopen(words[2], "r");
     if (deck == NULL) return 3;
     must(sqlite3_exec(database, "begin", NULL, NULL, NULL));
-    sqlite3_stmt *get = prepared("select grade from stud where num = ? and ed = ? and sname = ?");
-    sqlite3_stmt *insert = prepared("insert into stud values (?, ?, substr(?3, 1, 4), substr(?3, 5))");
-    sqlite3_stmt *replace = prepared("update stud set grade = substr(?4, 5) where num = ? and ed = ? and sname = ?");
-    sqlite3_stmt *delete_students = prepared("delete from stud where num = ? and ed = ?");
-    sqlite3_stmt *delete_class = prepared("delete from class where num = ? and ed = ?");
-    sqlite3_stmt *under = prepared("select sname, grade from stud where num = ? order by ed, sname");
-    int have = fgets(line[0], sizeof line[0], deck) != NULL;
-    int held = 0;
+    int have = fgets(line, sizeof line, deck) != NULL;
     while (have) {
-        char *text = line[0];
-        text[strcspn(text, "\n")] = 0;
-        int repeat = atoi(strndup(text + 1, 4)), arguments = 0;
-        char function[5] = "", area[300] = "";
-        memcpy(function, text + 6, 4);
-        char call[300];
-        strcpy(call, text);
-        if (strlen(call) > 11) strcpy(line[1 + arguments++], call + 11);
-        while ((have = fgets(line[0], sizeof line[0], deck) != NULL) && (line[0][0] == 'C' || line[0][0] == 'D')) {
-            line[0][strcspn(line[0], "\n")] = 0;
-            if (line[0][0] == 'C') strcpy(line[1 + arguments++], line[0] + 11);
-            else strcpy(area, line[0] + 1);
+        have = read_call(deck, line, &call);
+        struct call *own = !strcmp(call.function, "REPL") || !strcmp(call.function, "DLET") ? &held : &call;
+        if (!strcmp(call.function, "GN  ")) {
+            if (call.repeat > 1000) { scan(); break; }
+            continue;
         }
-        int found = 0;
-        static char kept[4][300];
-        if (strcmp(function, "REPL") && strcmp(function, "DLET"))
-            for (int i = 0; i < arguments; i++) {
-                char *value = value_of(line[1 + i]);
-                if (value != NULL) { strcpy(kept[found], value); values[found] = kept[found]; found++; }
-            }
-        if (!strncmp(function, "GU", 2) || !strncmp(function, "GHU", 3)) {
-            held = found;
-            if (found == 3) { bind(get, 3, values); run(get); }
-        } else if (!strncmp(function, "GNP", 3)) {
-            values[0] = kept[0];
-            bind(under, 1, values);
-            run(under);
-        } else if (!strncmp(function, "GN", 2)) {
-            if (repeat > 1000) { scan(); break; }
-        } else if (!strncmp(function, "ISRT", 4)) {
-            values[2] = area;
-            bind(insert, 3, values);
-            run(insert);
-        } else if (!strncmp(function, "REPL", 4)) {
-            for (int i = 0; i < 3; i++) values[i] = kept[i];
-            values[3] = area;
-            bind(replace, 4, values);
-            run(replace);
-        } else if (!strncmp(function, "DLET", 4) && held == 2) {
-            for (int i = 0; i < 2; i++) values[i] = kept[i];
-            bind(delete_students, 2, values);
-            run(delete_students);
-            bind(delete_class, 2, values);
-            run(delete_class);
+        if (!strcmp(call.function, "GNP ")) {
+            below(held.values[0]);
+            continue;
+        }
+        if (own->arguments == 0) return 64;
+        struct work *work = work_of(own->types[own->arguments - 1]);
+        char *values[MOST];
+        memcpy(values, own->values, sizeof values);
+        if (!strcmp(call.function, "ISRT")) {
+            values[own->arguments - 1] = call.area;
+            run_with(statement_of(work, 1, work->insert), own->arguments, values);
+        } else if (!strcmp(call.function, "REPL")) {
+            values[work->keys] = call.area;
+            run_with(statement_of(work, 2, work->replace), work->keys + 1, values);
+        } else if (!strcmp(call.function, "DLET")) {
+            for (int i = 0; i < 3 && work->delete[i] != NULL; i++) run_with(statement_of(work, 3 + i, work->delete[i]), work->keys, values);
+        } else {
+            run_with(statement_of(work, 0, work->get), work->keys, values);
+            memcpy(&held, &call, sizeof held);
+            for (int i = 0; i < held.arguments; i++)
+                if (call.values[i] != NULL) held.values[i] = held.lines[i] + (call.values[i] - call.lines[i]);
+            for (int i = 0; i < held.arguments; i++) held.types[i] = held.lines[i];
         }
     }
     must(sqlite3_exec(database, "commit", NULL, NULL, NULL));

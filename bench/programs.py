@@ -126,7 +126,7 @@ def main(words):
     write("b.psb", shapes.PSB)
     write("b.stream", shapes.stream(rows))
     write("one.deck", "L     GN\n")
-    write("scan.deck", shapes.scan(len(rows)))
+    write("scan.deck", shapes.repeated("GN", len(rows) + 1))
     run(["hd", "reload", "b.dbd", "b.stream", "b.volume", "65536"])
     opening = least(["hd", "deck", "b.dbd", "b.psb", "b.volume", "one.deck"])
     calls = len(rows) + 1
@@ -146,7 +146,8 @@ def main(words):
         reads, writes = system_calls([*hdrun, "DLI,SCAN"])
         print(f"both sides' reads and writes, a call: {reads / calls:.2f} and {writes / calls:.2f}, two of each at best")
     random_number = random.Random("keys")
-    keys = [shapes.path(random_number, segments) for _ in range(UNIQUE)]
+    player = shapes.Deep(segments, random_number)
+    keys = [player.path() for _ in range(UNIQUE)]
     write("keys", "".join("/".join(path) + "\n" for path in keys))
     write("keys.deck", "".join(shapes.call("GU", *path) for path in keys))
     show("GU by three keys: hd deck", UNIQUE, least(["hd", "deck", "b.dbd", "b.psb", "b.volume", "keys.deck"]), opening)

@@ -101,16 +101,6 @@ def call(function, *ssas, area=""):
     return text + (f"D{area}\n" if area else "")
 
 
-def path(random_number, segments):
-    """The arguments of a random student of `deep`."""
-    courses = max(1, segments // (1 + CLASSES * (1 + STUDENTS)))
-    return (
-        f"COURSE  (NUM     EQ{random_number.randrange(courses):07})",
-        f"CLASS   (ED      EQ{random_number.randrange(CLASSES):02})",
-        f"STUD    (SNAME   EQ{random_number.randrange(STUDENTS):04})",
-    )
-
-
 def scattered(segments):
     """A deck that puts in the rows of `deep`, those of each type in random order behind all of its parents', so that they lie scattered."""
     calls = {"COURSE": [], "CLASS": [], "STUD": []}
@@ -132,77 +122,154 @@ def scattered(segments):
     return "".join(text for rows in calls.values() for text in rows)
 
 
-def scan(segments):
-    """GN over all segments, and once more at the end."""
-    whole, rest = divmod(segments + 1, 9999)
-    return "L9999 GN\n" * whole + (f"L{rest:4} GN\n" if rest else "")
+def number_of(course):
+    return f"COURSE  (NUM     EQ{course:07})"
 
 
-def get_unique(segments, calls, random_number):
-    return "".join(call("GU", *path(random_number, segments)) for _ in range(calls))
+def class_path(course, edition):
+    return number_of(course), f"CLASS   (ED      EQ{edition:02})"
 
 
-def get_in_parent(segments, calls, random_number):
-    """GNP over all dependents of random courses."""
-    dependents = CLASSES * (1 + STUDENTS)
-    return "".join(call("GU", path(random_number, segments)[0]) + f"L{dependents:4} GNP\n" for _ in range(calls // dependents))
+def courses_of(segments):
+    """How many courses `deep` has."""
+    return max(1, segments // (1 + CLASSES * (1 + STUDENTS)))
 
 
-def insert(segments, calls, random_number):
-    """Students that are not there, of keys behind and between the others."""
-    paths = set()
-    while len(paths) < calls:
-        courses, classes, _ = path(random_number, segments)
-        paths.add((courses, classes, f"{random_number.randrange(STUDENTS, 9999):04}"))
-    order = sorted(paths)
-    random_number.shuffle(order)
-    return "".join(call("ISRT", courses, classes, "STUD    ", area=key + "55") for courses, classes, key in order)
+def repeated(function, count):
+    """A call that is made so often."""
+    whole, rest = divmod(count, 9999)
+    return f"L9999 {function}\n" * whole + (f"L{rest:4} {function}\n" if rest else "")
 
 
-def replace(segments, calls, random_number):
-    text = []
-    for _ in range(calls):
-        arguments = path(random_number, segments)
-        text.append(call("GHU", *arguments) + call("REPL", area=arguments[2][19:23] + "66"))
-    return "".join(text)
+class Deep:
+    """The calls over students below classes below courses."""
+
+    def __init__(self, segments, random_number):
+        self.segments, self.random = segments, random_number
+        self.courses = courses_of(segments)
+
+    def count(self):
+        return self.courses * (1 + CLASSES * (1 + STUDENTS))
+
+    def path(self):
+        """The arguments of a random student."""
+        course, edition = self.random.randrange(self.courses), self.random.randrange(CLASSES)
+        return (*class_path(course, edition), f"STUD    (SNAME   EQ{self.random.randrange(STUDENTS):04})")
+
+    def get(self):
+        return call("GU", *self.path())
+
+    def below(self, calls):
+        """GNP over all dependents of random courses."""
+        dependents = CLASSES * (1 + STUDENTS)
+        return "".join(call("GU", number_of(self.random.randrange(self.courses))) + f"L{dependents:4} GNP\n" for _ in range(calls // dependents))
+
+    def insert(self, calls):
+        """Students that are not there, of keys behind and between the others."""
+        paths = set()
+        while len(paths) < calls:
+            paths.add((self.random.randrange(self.courses), self.random.randrange(CLASSES), f"{self.random.randrange(STUDENTS, 9999):04}"))
+        order = sorted(paths)
+        self.random.shuffle(order)
+        return "".join(call("ISRT", *class_path(course, edition), "STUD    ", area=key + "55") for course, edition, key in order)
+
+    def replace(self):
+        arguments = self.path()
+        return call("GHU", *arguments) + call("REPL", area=arguments[2][19:23] + "66")
+
+    def delete(self, calls):
+        """Random classes with their students, each once."""
+        classes = [(course, edition) for course in range(self.courses) for edition in range(CLASSES)]
+        self.random.shuffle(classes)
+        return "".join(call("GHU", *class_path(*place)) + call("DLET") for place in classes[:calls])
 
 
-def delete(segments, calls, random_number):
-    """Random classes with their students, each once."""
-    courses = max(1, segments // (1 + CLASSES * (1 + STUDENTS)))
-    all_classes = [(number, edition) for number in range(courses) for edition in range(CLASSES)]
-    random_number.shuffle(all_classes)
-    text = []
-    for number, edition in all_classes[:calls]:
-        text.append(call("GHU", f"COURSE  (NUM     EQ{number:07})", f"CLASS   (ED      EQ{edition:02})") + call("DLET"))
-    return "".join(text)
+class Wide:
+    """The calls over books, which have no key, below ten courses: a new book goes in behind the last."""
+
+    def __init__(self, segments, random_number):
+        self.segments, self.random = segments, random_number
+
+    def count(self):
+        return self.segments
+
+    def get(self):
+        return call("GU", number_of(self.random.randrange(10)), "BOOK    *L")
+
+    def below(self, calls):
+        books = self.segments // 10 - 1
+        return "".join(call("GU", number_of(self.random.randrange(10))) + repeated("GNP", books) for _ in range(max(1, calls // books)))
+
+    def insert(self, calls):
+        return "".join(call("ISRT", number_of(self.random.randrange(10)), "BOOK    ", area=f"{book % 100000:05}") for book in range(calls))
+
+    def replace(self):
+        return call("GHU", number_of(self.random.randrange(10)), "BOOK    *L") + call("REPL", area=f"{self.random.randrange(100000):05}")
+
+    def delete(self, calls):
+        """The last books."""
+        return "".join(call("GHU", number_of(self.random.randrange(10)), "BOOK    *L") + call("DLET") for _ in range(min(calls, self.segments // 2)))
 
 
-def mixed(segments, calls, random_number):
+class Roots:
+    """The calls over courses without dependents."""
+
+    def __init__(self, segments, random_number):
+        self.segments, self.random = segments, random_number
+
+    def count(self):
+        return self.segments
+
+    def get(self):
+        return call("GU", number_of(self.random.randrange(self.segments)))
+
+    def insert(self, calls):
+        """Courses that are not there, in random order."""
+        numbers = list(range(self.segments, self.segments + calls))
+        self.random.shuffle(numbers)
+        return "".join(call("ISRT", "COURSE  ", area=f"{number:07}ALGEB") for number in numbers)
+
+    def replace(self):
+        number = self.random.randrange(self.segments)
+        return call("GHU", number_of(number)) + call("REPL", area=f"{number:07}OTHER")
+
+    def delete(self, calls):
+        numbers = list(range(self.segments))
+        self.random.shuffle(numbers)
+        return "".join(call("GHU", number_of(number)) + call("DLET") for number in numbers[:calls])
+
+
+PLAYERS = {"deep": Deep, "scattered": Deep, "wide": Wide, "roots": Roots}
+
+
+def mixed(player, calls):
     """Of ten calls six GU, two GN, one GHU with REPL."""
-    text = []
-    for _ in range(calls // 10):
-        arguments = path(random_number, segments)
-        text.append("".join(call("GU", *path(random_number, segments)) for _ in range(6)))
-        text.append("L   2 GN\n" + call("GHU", *arguments) + call("REPL", area=arguments[2][19:23] + "66"))
-    return "".join(text)
+    return "".join("".join(player.get() for _ in range(6)) + "L   2 GN\n" + player.replace() for _ in range(calls // 10))
 
 
 DECKS = {
-    "open": lambda segments, calls, random_number: "L     GN\n",
-    "scan": lambda segments, calls, random_number: scan(segments),
-    "GU": get_unique,
-    "GNP": get_in_parent,
-    "ISRT": insert,
-    "GHU, REPL": replace,
-    "GHU, DLET": delete,
+    "open": lambda player, calls: "L     GN\n",
+    "scan": lambda player, calls: repeated("GN", player.count() + 1),
+    "GU": lambda player, calls: "".join(player.get() for _ in range(calls)),
+    "GNP": lambda player, calls: player.below(calls),
+    "ISRT": lambda player, calls: player.insert(calls),
+    "REPL": lambda player, calls: "".join(player.replace() for _ in range(calls)),
+    "DLET": lambda player, calls: player.delete(calls),
     "mixed": mixed,
 }
 
+# the decks that the limit in C plays
+LIMITED = ("scan", "GU")
 
-def deck(name, segments, calls):
+
+def decks_of(shape):
+    """The decks that a shape has; there is nothing below roots alone."""
+    return [name for name in DECKS if name != "GNP" or shape != "roots"]
+
+
+def deck(shape, name, segments, calls):
     """The text of a deck, and how many calls it has."""
-    text = DECKS[name](segments, calls, random.Random(name))
+    text = DECKS[name](PLAYERS[shape](segments, random.Random(name)), calls)
     made = 0
     for line in text.split("\n"):
         if line.startswith("L"):
