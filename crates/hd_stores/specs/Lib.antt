@@ -2,8 +2,5 @@ pub mod Stores
 pub mod Memory
 pub mod Files
 pub mod Fuses
-pub mod Contents
 pub mod Runs
-pub mod Turns
-pub mod Caches
 pub mod AccessCounts

@@ -6,14 +6,14 @@ use hd_dbd::FreeSpace;
 use hd_sample::{root_database, root_stream, spaced_database, stream_of};
 use std::alloc::{AllocError, Global};
 
-/// A work over the volume of so many records of a kind, whose database leaves free space, behind a cache of how many blocks; how many blocks the volume has,
+/// A work over the volume of so many records of a kind, whose database leaves free space, of which so many blocks are kept in memory; how many blocks the volume has,
 /// and how many accesses there are at most.
 type Cost = (u8, u8, u32, u32, u32, usize, u32, u64);
 
 const COSTS: [Cost; 9] = [
-    // 127 roots of 16 bytes fill a data block, and 290 keys one of the index; above these 345 stand two, and the top. Keys that ascend come to no block again
-    // that is full: each is added and written; once all that are in the cache are written before block 0 is dropped from it
-    (b'r', b'R', 100_000, 0, 0, 64, 1137, 2 * 1137 + 64),
+    // 127 roots of 16 bytes fill a data block, and 290 keys one of the index; above these 345 stand two, and the top. Of so many blocks as
+    // four megabytes have, as commands keep, each is added and written
+    (b'r', b'R', 100_000, 0, 0, 2048, 1137, 2 * 1137 + 1),
     // each block is read for its extents; each data block once more by the walk along the pointers, and once or twice for the entries that name its roots;
     // each index block at most eight times more; and 64 roots are looked at to tell whether they lie scattered
     (
@@ -64,7 +64,7 @@ fn stream_for(alloc: Global, kind: u8, count: u32) -> Result<Vec<u8>, AllocError
 
 /// The accesses of a work, and the blocks of its volume.
 fn cost_of(alloc: Global, cost: Cost) -> Option<(u64, u32)> {
-    let (work, kind, count, fbff, fspf, cached, _, _) = cost;
+    let (work, kind, count, fbff, fspf, kept, _, _) = cost;
     let key_length = if kind == b'R' { 3 } else { 26 };
     let is_of_roots = kind == b'R' || kind == b'K';
     let dbd = if is_of_roots {
@@ -84,10 +84,10 @@ fn cost_of(alloc: Global, cost: Cost) -> Option<(u64, u32)> {
     };
     let job = Job {
         work,
-        cached,
+        kept,
         ..CHECK
     };
-    let done = outcome(alloc, &dbd, job, &stream, image)?;
+    let done = outcome(alloc, &dbd, job, &stream, image);
     match done.told {
         Ok(counts) => Some((done.accesses, counts.1)),
         Err(_) => None,

@@ -5,7 +5,7 @@ ghost use Rattle.hd_dbd.specs.Facts.{stored_sizes};
 use crate::stores::Page;
 use hd_check::{CheckFault, check};
 use hd_dbd::{Dbd, Refused};
-use hd_stores::{BlockStore, Cached, FuseStore, MemStore};
+use hd_stores::{BlockStore, FuseStore, MemStore};
 use hd_unload::{ReloadFault, StreamFault, UnloadFault, reload, unload, write_stream};
 use hd_volume::Volume;
 use std::alloc::Global;
@@ -64,11 +64,13 @@ fn segments_of<S: BlockStore, W: Write>(
     }
 }
 
-/// Does a work over a store, and gives the store back: a `reload` of a stream, for which `Changed` says that it is refused, or what tells of the volume there.
+/// Does a work over a store, so many blocks of which are kept in memory, and gives the store back: a `reload` of a stream, for which `Changed` says that it is
+/// refused, or what tells of the volume there.
 pub fn over<S: BlockStore + Drop, W: Write>(
     alloc: Global,
     dbd: &Dbd,
     work: u8,
+    kept: usize,
     stream: &[u8],
     store: S,
     out: &mut W,
@@ -77,13 +79,13 @@ pub fn over<S: BlockStore + Drop, W: Write>(
     requires size { S.size store ≡ dbd.now.block_size }
 {
     if work == b'r' {
-        return match reload(alloc, dbd, stream, store, 65536, 3) {
+        return match reload(alloc, dbd, stream, store, 65536, kept) {
             Ok(made) => (Ok((made.segments, made.blocks)), made.store),
             Err((store, ReloadFault::Device)) => (Err(DEVICE), store),
             Err((store, _)) => (Err(UnloadFault::Changed), store),
         };
     }
-    let mut volume = match Volume::load(alloc, store, dbd) {
+    let mut volume = match Volume::load_keeping(alloc, store, dbd, kept) {
         Ok(volume) => volume,
         Err((store, Refused::Device)) => return (Err(DEVICE), store),
         Err((store, _)) => return (Err(UnloadFault::Check(CheckFault::Memory)), store),
@@ -97,11 +99,11 @@ pub fn over<S: BlockStore + Drop, W: Write>(
     }
 }
 
-/// What is done, behind a cache of so many blocks if any, and after how many accesses and pieces written one fails.
+/// What is done, how many blocks are kept in memory, three at the least, and after how many accesses and pieces written one fails.
 #[derive(Clone, Copy)]
 pub struct Job {
     pub work: u8,
-    pub cached: usize,
+    pub kept: usize,
     pub accesses: u64,
     pub pieces: u64,
 }
@@ -109,36 +111,10 @@ pub struct Job {
 /// A check that nothing hinders.
 pub const CHECK: Job = Job {
     work: b'c',
-    cached: 0,
+    kept: 0,
     accesses: u64::MAX,
     pieces: u64::MAX,
 };
-
-/// Does a job over a store, behind its cache; where that is closed, what is changed is written.
-fn behind_cache(
-    alloc: Global,
-    dbd: &Dbd,
-    job: Job,
-    stream: &[u8],
-    store: Store,
-    page: &mut Page,
-) -> Option<(Told, Store)>
-    requires unsound { store.inner.is_blown ≡ true }
-    requires size { store.inner.inner.size ≡ dbd.now.block_size }
-{
-    if job.cached == 0 || job.cached > 64 {
-        return Some(over(alloc, dbd, job.work, stream, store, page));
-    }
-    let Ok(cached) = Cached::new(alloc, store, job.cached) else {
-        return None;
-    };
-    let (told, cached) = over(alloc, dbd, job.work, stream, cached, page);
-    let (store, written) = cached.into_store();
-    if written.is_err() {
-        return Some((Err(DEVICE), store));
-    }
-    Some((told, store))
-}
 
 /// What came of a job: what was told, the bytes of the store, how many accesses came to it, whether one or a write failed, and what was written.
 #[derive(Drop)]
@@ -150,23 +126,23 @@ pub struct Ended {
     pub written: Vec<u8>,
 }
 
-/// Does a job over a store of these bytes, with a stream to be reloaded; `None` where there is no memory for a cache.
-pub fn outcome(alloc: Global, dbd: &Dbd, job: Job, stream: &[u8], image: Vec<u8>) -> Option<Ended> {
+/// Does a job over a store of these bytes, with a stream to be reloaded.
+pub fn outcome(alloc: Global, dbd: &Dbd, job: Job, stream: &[u8], image: Vec<u8>) -> Ended {
     let mut page = Page {
         bytes: Vec::new(alloc),
         pieces: job.pieces,
         is_full: false,
     };
     let store = store_of(dbd.block_size() as usize, image, job.accesses);
-    let (told, store) = behind_cache(alloc, dbd, job, stream, store, &mut page)?;
+    let (told, store) = over(alloc, dbd, job.work, job.kept, stream, store, &mut page);
     let accesses = store.accesses();
-    Some(Ended {
+    Ended {
         told,
         image: store.into_inner().into_inner().into_bytes(),
         accesses,
         has_failed: accesses > job.accesses || page.is_full,
         written: page.bytes,
-    })
+    }
 }
 
 /// The bytes of the volume that a reload makes of a stream, if it makes one.
@@ -175,7 +151,7 @@ pub fn reloaded(alloc: Global, dbd: &Dbd, stream: &[u8]) -> Option<Vec<u8>> {
         work: b'r',
         ..CHECK
     };
-    let done = outcome(alloc, dbd, job, stream, Vec::new(alloc))?;
+    let done = outcome(alloc, dbd, job, stream, Vec::new(alloc));
     match done.told {
         Ok(_) => Some(done.image),
         Err(_) => None,

@@ -8,7 +8,7 @@ use hd_sample::{RECORDS, database, image, put, spread_image, stream_of, widened}
 use hd_unload::UnloadFault;
 use std::alloc::Global;
 
-/// A work, over what it is done, behind a cache of how many blocks, and whether writes fail in its place; then how many accesses or writes there are at least,
+/// A work, over what it is done, how many blocks are kept in memory, and whether writes fail in its place; then how many accesses or writes there are at least,
 /// and at most.
 type Trial = (u8, u8, usize, bool, u64, u64);
 
@@ -16,16 +16,16 @@ type Trial = (u8, u8, usize, bool, u64, u64);
 /// block is read at least once, or is added and written; and each of eight records is written.
 const TRIALS: [Trial; 11] = [
     (b'c', 0, 0, false, 9, 40),
-    (b'c', 0, 2, false, 9, 40),
+    (b'c', 0, 64, false, 9, 40),
     (b'c', 1, 0, false, 8, 28),
     (b'u', 0, 0, false, 9, 80),
-    (b'u', 0, 2, false, 9, 80),
-    (b'u', 1, 2, false, 8, 28),
+    (b'u', 0, 64, false, 9, 80),
+    (b'u', 1, 64, false, 8, 28),
     (b'w', 0, 0, false, 9, 80),
     (b'r', 2, 0, false, 8, 80),
-    (b'r', 2, 2, false, 8, 80),
+    (b'r', 2, 64, false, 8, 80),
     (b'u', 0, 0, true, 8, 80),
-    (b'w', 0, 2, true, 8, 80),
+    (b'w', 0, 64, true, 8, 80),
 ];
 
 /// The bytes over which a trial is made. The ring is of two books that name each other, and that nothing else names.
@@ -67,7 +67,7 @@ fn count_of(alloc: Global, dbd: &Dbd, trial: Trial, stream: &[u8]) -> Option<u64
     for passes in 0..100 {
         let mut job = Job {
             work: trial.0,
-            cached: trial.2,
+            kept: trial.2,
             ..CHECK
         };
         let mut refusal = DEVICE;
@@ -77,7 +77,7 @@ fn count_of(alloc: Global, dbd: &Dbd, trial: Trial, stream: &[u8]) -> Option<u64
         } else {
             job.accesses = passes;
         }
-        let done = outcome(alloc, dbd, job, stream, image_of(alloc, trial)?)?;
+        let done = outcome(alloc, dbd, job, stream, image_of(alloc, trial)?);
         if !done.has_failed {
             return if is_right(trial, &done, stream) {
                 Some(passes)
@@ -121,7 +121,7 @@ fn an_unload_tells_of_a_volume_that_is_changed_meanwhile(rt: HostRuntime) {
             pieces: u64::MAX,
             is_full: false,
         };
-        let (told, _store) = over(alloc, &dbd, b'u', &[], store, &mut page);
+        let (told, _store) = over(alloc, &dbd, b'u', 0, &[], store, &mut page);
         match told {
             Ok(counts) => {
                 assert!(rt; counts == (7, 9) && page.bytes == stream, "{reads}");

@@ -1,11 +1,11 @@
-//! Tests of blocks, segment prefixes, stores, volumes, the cache, the root index, linked segments, and positions; and of the store of a volume and its log: runs that a
+//! Tests of blocks, segment prefixes, stores, volumes, the root index, linked segments, and positions; and of the store of a volume and its log: runs that a
 //! stop cuts short over disks that lose or tear what was not synced, and restarts that stop too.
 #![tactic(auto)]
 
 #[cfg(test)]
-mod block_tests;
+mod ahead_tests;
 #[cfg(test)]
-mod cache_tests;
+mod block_tests;
 #[cfg(test)]
 mod chance;
 #[cfg(test)]

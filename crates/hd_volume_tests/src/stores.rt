@@ -9,8 +9,7 @@ use hd_sample::put;
 use hd_stores::{BlockStore, RunStore};
 use std::alloc::{AllocError, Global};
 
-/// A store in memory, of which no contract says anything: behind so many accesses one or more fail, and all others pass; where memory is short it
-/// reserves nothing, and the growth after so many finds none. An access is a read, a write or a growth.
+/// A store in memory, of which no contract says anything: behind so many accesses one fails, and all others pass. An access is a read, a write or a growth.
 #[derive(Drop)]
 pub struct TestStore {
     pub bytes: Vec<u8>,
@@ -20,10 +19,7 @@ pub struct TestStore {
     pub runs: u32,
     size: usize,
     passes: u64,
-    failing: u32,
     failures: u32,
-    /// How many growths find memory before the one that does not, where memory is short.
-    grows: Option<u32>,
     room: u32,
     ghost some: { 0 < size },
     ghost small: { size ≤ 32768 },
@@ -43,27 +39,9 @@ impl TestStore {
             runs: 0,
             size,
             passes,
-            failing: 1,
             failures: 0,
-            grows: None,
             room: 0,
         }
-    }
-
-    /// The store fails so many accesses, one behind the other.
-    pub fn fail(mut self, count: u32) -> TestStore
-        ensures { result.size ≡ self.size }
-    {
-        self.failing = count;
-        self
-    }
-
-    /// The store reserves nothing, and the growth after so many finds no memory.
-    pub fn with_little_memory(mut self, grows: u32) -> TestStore
-        ensures { result.size ≡ self.size }
-    {
-        self.grows = Some(grows);
-        self
     }
 
     /// Counts an access. `Device` says that it is one that fails.
@@ -74,25 +52,12 @@ impl TestStore {
         ensures room { self.new.room ≡ self.old.room }
     {
         self.accesses = self.accesses.saturating_add(1);
-        if self.passes == 0 && self.failures < self.failing {
+        if self.passes == 0 && self.failures == 0 {
             self.failures += 1;
             return Err(Refused::Device);
         }
         self.passes = self.passes.saturating_sub(1);
         Ok(())
-    }
-
-    /// Whether a growth finds memory. It is counted.
-    fn finds_memory(&mut self) -> bool
-        ensures size { self.new.size ≡ self.old.size }
-        ensures room { self.new.room ≡ self.old.room }
-        ensures failures { self.new.failures ≡ self.old.failures }
-    {
-        let Some(left) = self.grows else {
-            return true;
-        };
-        self.grows = Some(left.wrapping_sub(1));
-        left != 0
     }
 
     /// Copies the bytes from a block on.
@@ -143,18 +108,12 @@ impl BlockStore for TestStore {
         if blocks <= self.room {
             return Ok(());
         }
-        if self.grows.is_some() {
-            return Err(Refused::Memory);
-        }
         self.room = blocks;
         Ok(())
     }
 
     fn grow(&mut self, blocks: u32) -> Result<(), Refused> {
         self.spend()?;
-        if blocks > self.room && !self.finds_memory() {
-            return Err(Refused::Memory);
-        }
         let length = self.bytes.len().saturating_add(blocks as usize * self.size);
         let _ = self.bytes.resize(length, 0);
         self.room = self.room.saturating_sub(blocks);
