@@ -2,10 +2,11 @@ use crate::beginning::Beginning;
 use crate::dbd_source::read_database;
 use crate::ink::Ink;
 use crate::places::line_at;
-use crate::row_advice::advise_row;
-use crate::sights::{Sight, Sighted, StreamHead, VolumeLength, written_file};
+use crate::row_advice::{advise_row, put_table};
+use crate::sight_advice::{put_fault, put_stream};
+use crate::sights::{Sight, written_file};
 use crate::source_advice::{SourceText, advise_source};
-use crate::stop::{Stop, TableFault};
+use crate::stop::Stop;
 use crate::stream_command::text_of;
 use hd_commands::Refusal;
 use hd_dbd::Dbd;
@@ -13,18 +14,11 @@ use hd_deck::DeckFault;
 use hd_explain::{Explanation, explain};
 use hd_files::{ENDING as NEW_ENDING, LOG_ENDING, Named};
 use hd_gen::GenFault;
-use hd_rows::RowFault;
 use hd_words::Request;
 use std::alloc::Global;
 use std::fs::File;
 use std::io::{self, ErrorKind, Write};
 use std::rt::Files;
-
-/// The most blocks that a volume may have.
-const MOST_BLOCKS: u32 = 65_536;
-
-/// The version of unload streams.
-const STREAM_VERSION: u16 = 1;
 
 /// Writes the lines that say more of why the program stops: the file, and what the system said of it, or the line of a text that is refused;
 /// and what the fault's word means.
@@ -212,7 +206,7 @@ fn put_named<E: Write>(name: &str, word: &str, ink: &mut Ink<'_, E>) {
 }
 
 /// Writes a word and what it means, behind the name of the file of which it tells.
-fn put_entry_of<E: Write>(name: &str, entry: &Explanation, ink: &mut Ink<'_, E>) {
+pub fn put_entry_of<E: Write>(name: &str, entry: &Explanation, ink: &mut Ink<'_, E>) {
     ink.name(name);
     ink.put(": ");
     ink.put(entry.word);
@@ -353,42 +347,6 @@ pub fn put_place<E: Write>(
     ink.put("\n");
 }
 
-/// Writes the line of a table in a folder, the name of its column that is at fault, and the names that it may have.
-fn put_table<E: Write>(folder: &str, table: &TableFault, ink: &mut Ink<'_, E>) {
-    ink.name(folder);
-    ink.put("/");
-    ink.put(&table.name);
-    ink.put(".csv");
-    if !table.text.is_empty() {
-        ink.put(":");
-        ink.number(table.line);
-        ink.put(": ");
-        let number = usize::try_from(table.line).unwrap_or(usize::MAX);
-        ink.shown(line_at(&table.text, number));
-    }
-    ink.put("\n");
-    if !table.column.is_empty() {
-        ink.put("  the column is ");
-        ink.shown(&table.column);
-        ink.put("\n");
-    }
-    put_names(table, ink);
-    advise_row(table.fault, ink);
-}
-
-/// Writes the names that a table may have, or its columns.
-fn put_names<E: Write>(table: &TableFault, ink: &mut Ink<'_, E>) {
-    match table.fault {
-        RowFault::Type => ink.put("  the types of the database are "),
-        RowFault::Part | RowFault::Missing => {
-            ink.put("  the columns that hd rows --csv writes are ");
-        }
-        _ => return,
-    }
-    ink.shown(table.names.trim_ascii_end());
-    ink.put("\n");
-}
-
 /// Writes what a word means, where that is known.
 pub fn put_word<E: Write>(word: &str, ink: &mut Ink<'_, E>) {
     if let Some(entry) = explain(word) {
@@ -413,93 +371,6 @@ pub fn put_more<E: Write>(entry: &Explanation, ink: &mut Ink<'_, E>) {
     ink.put(entry.word);
     ink.put(quote);
     ink.put(" says more\n");
-}
-
-/// Writes what a fault of a volume means, behind the volume's name, and what is seen at its place.
-fn put_fault<E: Write>(name: &str, word: &str, seen: Option<&Sight>, ink: &mut Ink<'_, E>) {
-    let Some(entry) = explain(word) else {
-        return;
-    };
-    put_entry_of(name, entry, ink);
-    match seen {
-        Some(Sight::Segment(segment)) => put_segment(segment, ink),
-        Some(Sight::Length(length)) => put_length(*length, ink),
-        Some(Sight::Mark) => ink.put("; the file does not begin with HDVOLUME"),
-        Some(Sight::Kind(_, _) | Sight::Stream(_)) | None => {}
-    }
-    put_more(entry, ink);
-}
-
-/// Writes how long a volume's file should be, where it is not so long.
-fn put_length<E: Write>(length: VolumeLength, ink: &mut Ink<'_, E>) {
-    let VolumeLength {
-        found,
-        blocks,
-        size,
-        block_size,
-        largest,
-    } = length;
-    let asked = u64::from(blocks).saturating_mul(u64::from(size));
-    if found < u64::from(block_size) {
-        ink.put("; the file has ");
-        ink.number(found);
-        ink.put(" bytes, and a block ");
-        ink.number(u64::from(block_size));
-    } else if size != block_size {
-        ink.put("; the header tells of blocks of ");
-        ink.number(u64::from(size));
-        ink.put(" bytes, and the DBD of ");
-        ink.number(u64::from(block_size));
-    } else if asked != found {
-        ink.put("; the header asks for ");
-        ink.number(u64::from(blocks));
-        ink.put(" blocks of ");
-        ink.number(u64::from(size));
-        ink.put(" bytes, ");
-        ink.number(asked);
-        ink.put(" in all, and the file has ");
-        ink.number(found);
-    } else if largest < blocks {
-        ink.put("; the header tells of ");
-        ink.number(u64::from(blocks));
-        ink.put(" blocks, and that it has at most ");
-        ink.number(u64::from(largest));
-    } else if largest > MOST_BLOCKS {
-        ink.put("; the header tells of at most ");
-        ink.number(u64::from(largest));
-        ink.put(" blocks, and a volume may have at most 65536");
-    }
-}
-
-/// Writes of which version or database an unload stream is, and which is wanted.
-fn put_stream<E: Write>(name: &str, head: &StreamHead, ink: &mut Ink<'_, E>) {
-    ink.name(name);
-    ink.put(": this is an unload stream of ");
-    if head.version != STREAM_VERSION {
-        ink.put("version ");
-        ink.number(u64::from(head.version));
-        ink.put(", and version 1 is wanted\n");
-        return;
-    }
-    ink.put("the database \"");
-    ink.shown(head.name.trim_ascii_end());
-    ink.put("\", and one of \"");
-    ink.put(text_of(&head.database));
-    ink.put("\" is wanted\n");
-}
-
-/// Writes where a segment stands, and its type and key.
-fn put_segment<E: Write>(seen: &Sighted, ink: &mut Ink<'_, E>) {
-    ink.put("; the segment at ");
-    ink.number(u64::from(seen.address));
-    ink.put(" is of type ");
-    ink.put(text_of(&seen.name));
-    if seen.key.is_empty() {
-        return;
-    }
-    ink.put(" with the key \"");
-    ink.shown(&seen.key);
-    ink.put("\"");
 }
 
 /// The word of a text's fault, which stands last, as in `line 10, M4` and `type 1, B6`.

@@ -1,7 +1,8 @@
 use crate::advice::{put_entry, put_line, put_more, put_other_kind, put_place, put_word, word_of};
-use crate::culprits::{Culprit, culprit_of_database, culprit_of_program, is, name_in, pcb_of};
+use crate::culprits::{Culprit, culprit_of_database, is, name_in};
 use crate::ink::Ink;
 use crate::places::{byte_at, line_at, operand_at, operand_before, other_byte_at, unblank_at};
+use crate::program_culprits::{culprit_of_program, pcb_of};
 use hd_dbd::Dbd;
 use hd_explain::explain;
 use hd_files::Named;

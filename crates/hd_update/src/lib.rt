@@ -5,6 +5,7 @@ mod area;
 mod deletions;
 mod dlet_call;
 mod held;
+mod here;
 mod isrt_call;
 mod load_call;
 mod load_rule;

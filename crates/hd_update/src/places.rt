@@ -1,6 +1,5 @@
 //! Where a row goes in: the twin behind which it is linked.
 ghost use Rattle.std.specs.Prelude.{◌≡◌, List, ℕ, true, false, Some, IfOk, IsTrue};
-ghost use Rattle.hd_dbd.specs.declared.hierarchy.Rule.TheVariants.{Here};
 ghost use Rattle.hd_dbd.specs.Loads.{has_unique_key};
 ghost use Rattle.hd_dbd.specs.Refusals.{OnlyDevice};
 ghost use Rattle.hd_dbd.specs.Rows.{row_fits};
@@ -10,16 +9,17 @@ ghost use Rattle.hd_forest.specs.TwinPlaces.{twin_places};
 ghost use Rattle.hd_get.specs.Meeting.{IsStored};
 ghost use Rattle.hd_get.specs.Searches.{IsOf};
 ghost use Rattle.hd_get.specs.Starts.{HasRoots};
-ghost use Rattle.hd_update.specs.Places.{has_key, side_of, side_at, IsGapBelow, HasParent, is_equal_at, standing_path, IsStandingTwin, HasRowOf, IsBeforeEqual, HasNextRoot, HasPlace, IsPlaceBelow, IsAroundKey};
+ghost use Rattle.hd_update.specs.Places.{has_key, side_of, side_at, IsGapBelow, HasParent, HasNextRoot, HasPlace, IsPlaceBelow, IsAroundKey};
 
+use crate::here::place_here;
 use crate::load_rule::key_order;
 use hd_dbd::{Dbd, Refused, Rule, compare_keys};
 use hd_forest::{
-    Path, TwinPlaces, TwinsAround, code_at, first_child, forward_in, key_at, last_twin, parent_on,
-    prev_twin, tip_of, twin_places, twins_around,
+    Path, TwinPlaces, TwinsAround, first_child, forward_in, key_at, last_twin, prev_twin, tip_of,
+    twin_places, twins_around,
 };
 use hd_index::next_from;
-use hd_position::{Position, row_on};
+use hd_position::Position;
 use hd_stores::BlockStore;
 use hd_volume::Volume;
 use std::cmp::Ordering;
@@ -223,7 +223,7 @@ fn place_from_last<S: BlockStore>(
 }
 
 /// The place of a row below a parent, where it goes last among its equals or first.
-fn place_by_key<S: BlockStore>(
+pub fn place_by_key<S: BlockStore>(
     volume: &mut Volume<S>,
     dbd: &Dbd,
     parent: u32,
@@ -286,104 +286,6 @@ fn place_of_root<S: BlockStore>(
             let twin = last_twin(volume, dbd, 0, 1)?;
             Ok(Some(twin))
         }
-    }
-}
-
-/// The path down to the row on which a PCB stands, if it stands on one.
-fn standing_path(position: &Position) -> Option<Path>
-    ensures { result ≡ standing_path position.now }
-{
-    let level = position.standing();
-    let address = row_on(position.path(), level)?;
-    let mut path = position.path().copy();
-    path.step(level, address);
-    Some(path)
-}
-
-/// Whether the row at an address is of a new row's type and has its key. One access.
-fn is_equal_at<S: BlockStore>(
-    volume: &mut Volume<S>,
-    dbd: &Dbd,
-    address: u32,
-    code: u8,
-    bytes: &[u8],
-) -> Result<bool, Refused>
-    requires of { IsOf dbd.now volume.old }
-    requires there { IsStored dbd.now volume.old address }
-    ensures read { IsRead volume.old result volume.new }
-    ensures value { IfOk result (λ r. IsTrue volume.old.is_sound → r ≡ is_equal_at dbd.now.types (links_of dbd.now.types volume.old) (record { code = code; bytes = bytes.now }) address) }
-    ensures refusal { OnlyDevice result }
-{
-    if code_at(volume, dbd, address)? != code {
-        return Ok(false);
-    }
-    let order = key_order(volume, dbd, address, code, bytes)?;
-    Ok(order.is_eq())
-}
-
-/// The path of the row on which a PCB stands, where that is a twin of a new row with its key. One access at most.
-fn standing_twin<S: BlockStore>(
-    volume: &mut Volume<S>,
-    dbd: &Dbd,
-    parent: &Path,
-    position: &Position,
-    code: u8,
-    bytes: &[u8],
-) -> Result<Option<Path>, Refused>
-    requires there { HasPlace dbd.now volume.old parent.now position.now code }
-    ensures read { IsRead volume.old result volume.new }
-    ensures value { IfOk result (λ r. IsStandingTwin dbd.now volume.old parent.now position.now (record { code = code; bytes = bytes.now }) r) }
-    ensures refusal { OnlyDevice result }
-{
-    let Some(path) = standing_path(position) else {
-        return Ok(None);
-    };
-    if parent_on(&path) != tip_of(parent) {
-        return Ok(None);
-    }
-    if is_equal_at(volume, dbd, tip_of(&path), code, bytes)? {
-        return Ok(Some(path));
-    }
-    Ok(None)
-}
-
-/// The place of a row just before its equal at the end of a path, if the key is not unique.
-fn place_before_equal<S: BlockStore>(
-    volume: &mut Volume<S>,
-    dbd: &Dbd,
-    path: &Path,
-    code: u8,
-) -> Result<Option<u32>, Refused>
-    requires there { HasRowOf dbd.now volume.old path.now code }
-    ensures read { IsRead volume.old result volume.new }
-    ensures value { IfOk result (λ r. IsBeforeEqual dbd.now volume.old path.now code r) }
-    ensures refusal { OnlyDevice result }
-{
-    if dbd.has_unique_key(code) {
-        return Ok(None);
-    }
-    let twin = prev_twin(volume, dbd, path)?;
-    Ok(Some(twin))
-}
-
-/// The place of a row by HERE: before its equal on which the PCB stands, else before all its equals.
-fn place_here<S: BlockStore>(
-    volume: &mut Volume<S>,
-    dbd: &Dbd,
-    parent: &Path,
-    position: &Position,
-    code: u8,
-    bytes: &[u8],
-) -> Result<Option<u32>, Refused>
-    requires fits { row_fits dbd.now.types (record { code = code; bytes = bytes.now }) ≡ true }
-    requires there { HasPlace dbd.now volume.old parent.now position.now code }
-    ensures read { IsRead volume.old result volume.new }
-    ensures value { IfOk result (λ place. IsPlaceBelow dbd.now volume.old parent.now position.now Here (record { code = code; bytes = bytes.now }) place) }
-    ensures refusal { OnlyDevice result }
-{
-    match standing_twin(volume, dbd, parent, position, code, bytes)? {
-        Some(equal) => place_before_equal(volume, dbd, &equal, code),
-        None => place_by_key(volume, dbd, tip_of(parent), false, code, bytes),
     }
 }
 

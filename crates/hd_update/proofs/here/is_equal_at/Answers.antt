@@ -8,7 +8,7 @@ use Rattle.hd_dbd.specs.Segment.{Segment}
 use Rattle.hd_links.specs.Links.{Links, segment_at}
 use Rattle.hd_image.specs.Records.{links_of}
 use Rattle.hd_forest.proofs.Reading.{after-read}
-use Rattle.hd_update.proofs.places.is_equal_at.Goals as goal
+use Rattle.hd_update.proofs.here.is_equal_at.Goals as goal
 
 pub returns-clause-value : goal.returns-clause-value
 returns-clause-value g c sound =

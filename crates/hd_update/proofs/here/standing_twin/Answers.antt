@@ -6,7 +6,7 @@ use Rattle.hd_get.proofs.Grounds.{tip_there}
 use Rattle.hd_update.specs.Places.{is_equal_at, standing_twin}
 use Rattle.hd_update.proofs.TwinGaps.{ground}
 use Rattle.hd_update.proofs.PlaceStanding.{standing_row, standing_none, other_parent, same_parent}
-use Rattle.hd_update.proofs.places.standing_twin.Goals as goal
+use Rattle.hd_update.proofs.here.standing_twin.Goals as goal
 
 pub returns-in_default-clause-value : goal.returns-in_default-clause-value
 returns-in_default-clause-value g c f q parent at at_parent =

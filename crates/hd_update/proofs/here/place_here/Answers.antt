@@ -10,7 +10,7 @@ use Rattle.hd_update.proofs.PlaceChains.{parent_kept, gap_told}
 use Rattle.hd_update.proofs.PlaceEqual.{equal_there, before_equal}
 use Rattle.hd_update.proofs.PlaceStanding.{none_found_before}
 use Rattle.hd_volume.proofs.CallSteps.{reads-join}
-use Rattle.hd_update.proofs.places.place_here.Goals as goal
+use Rattle.hd_update.proofs.here.place_here.Goals as goal
 
 pub place_before_equal-requires : goal.place_before_equal-requires
 place_before_equal-requires g c = record {

@@ -8,7 +8,7 @@ use Rattle.hd_get.proofs.Climbs.{some_path}
 use Rattle.hd_get.proofs.Grounds.{tip_code}
 use Rattle.hd_update.proofs.TwinGaps.{ground}
 use Rattle.hd_update.proofs.PlaceBelow.{unlink_behind}
-use Rattle.hd_update.proofs.places.place_before_equal.Goals as goal
+use Rattle.hd_update.proofs.here.place_before_equal.Goals as goal
 
 pub prev_twin-requires-clause-there : goal.prev_twin-requires-clause-there
 prev_twin-requires-clause-there g c sound =
