@@ -16,8 +16,9 @@ use std::rt::Files;
 
 /// The files of a volume that is changed: its own, and the log beside it. Nothing is promised of their bytes.
 ///
-/// The log is made at the first write to it of more than zeros, with the volume's owner and rights, and its folder is on the disk before anything is written into it. Before
-/// each write it is seen that the volume's name still leads to its file: the volume that has the name else is another, and what is written would be lost.
+/// The log is made at the first write to it of more than zeros, with the volume's owner and rights, and its folder is on the disk before anything is written into it. At
+/// each sync, and before the first write behind one, it is seen that the volume's name still leads to its file: the volume that has the name else is another, and what is
+/// written would be lost.
 #[derive(Drop)]
 pub struct VolumeFiles<'a, R: Files<File = File>> {
     volume: OpenVolume<'a, R>,
@@ -29,6 +30,8 @@ pub struct VolumeFiles<'a, R: Files<File = File>> {
     zeros: u64,
     /// Whether to wait until what is written is on the disk.
     syncs: bool,
+    /// Whether it was seen, since the last sync, that the volume's name leads to its file.
+    is_named: bool,
     /// What the system said of the last write or sync that it refused.
     last_error: Option<io::Error>,
 }
@@ -52,6 +55,7 @@ impl<'a, R: Files<File = File>> VolumeFiles<'a, R> {
             log,
             zeros: 0,
             syncs,
+            is_named: false,
             last_error: None,
         })
     }
@@ -82,6 +86,7 @@ impl<'a, R: Files<File = File>> VolumeFiles<'a, R> {
             log,
             zeros: 0,
             syncs: false,
+            is_named: false,
             last_error: None,
         })
     }
@@ -106,6 +111,7 @@ impl<'a, R: Files<File = File>> VolumeFiles<'a, R> {
             log: Some(log),
             zeros: 0,
             syncs: true,
+            is_named: false,
             last_error: None,
         })
     }
@@ -134,17 +140,50 @@ impl<'a, R: Files<File = File>> VolumeFiles<'a, R> {
         }
     }
 
-    /// Refuses to write where the name leads to another file, or to none.
-    fn be_named(&self) -> io::Result<()> {
-        let is_named = match fs::metadata(self.volume.rt, self.volume.name) {
+    /// Refuses to go on where the name leads to another file, or to none.
+    fn be_named(&mut self) -> io::Result<()> {
+        self.is_named = match fs::metadata(self.volume.rt, self.volume.name) {
             Ok(metadata) => Identity::of(&metadata) == self.volume.identity,
             Err(_) => false,
         };
-        if is_named {
+        if self.is_named {
             return Ok(());
         }
         let message = "another file has taken its name, or none has it";
         Err(io::Error::new(ErrorKind::NotFound, message))
+    }
+
+    /// The same before a write, where it was not seen since the last sync.
+    fn be_named_to_write(&mut self) -> io::Result<()> {
+        match self.is_named {
+            true => Ok(()),
+            false => self.be_named(),
+        }
+    }
+
+    /// The same at a sync of what was written.
+    fn be_named_at_sync(&mut self) -> io::Result<()> {
+        if !self.is_named {
+            return Ok(());
+        }
+        self.be_named()?;
+        self.is_named = false;
+        Ok(())
+    }
+
+    /// Waits until the log is on the disk.
+    fn settle_log(&mut self) -> io::Result<()> {
+        self.be_named_at_sync()?;
+        match &self.log {
+            Some(log) => self.wait_for(log),
+            None => Ok(()),
+        }
+    }
+
+    /// Waits until the volume is on the disk.
+    fn settle_volume(&mut self) -> io::Result<()> {
+        self.be_named_at_sync()?;
+        self.wait_for(&self.volume.file)
     }
 
     /// Makes the log where there is none.
@@ -170,7 +209,7 @@ impl<'a, R: Files<File = File>> VolumeFiles<'a, R> {
             self.zeros = self.zeros.max(at.saturating_add(bytes.len() as u64));
             return Ok(());
         }
-        self.be_named()?;
+        self.be_named_to_write()?;
         self.make_log()?;
         match &self.log {
             Some(log) => log.write_all_at(bytes, at),
@@ -178,8 +217,8 @@ impl<'a, R: Files<File = File>> VolumeFiles<'a, R> {
         }
     }
 
-    fn put_in_volume(&self, at: u64, bytes: &[u8]) -> io::Result<()> {
-        self.be_named()?;
+    fn put_in_volume(&mut self, at: u64, bytes: &[u8]) -> io::Result<()> {
+        self.be_named_to_write()?;
         self.volume.file.write_all_at(bytes, at)
     }
 
@@ -271,15 +310,12 @@ impl<'a, R: Files<File = File>> Disk for VolumeFiles<'a, R> {
     }
 
     fn sync_log(&mut self) -> Result<(), Failed> {
-        let done = match &self.log {
-            Some(log) => self.wait_for(log),
-            None => Ok(()),
-        };
+        let done = self.settle_log();
         self.note(done)
     }
 
     fn sync_volume(&mut self) -> Result<(), Failed> {
-        let done = self.wait_for(&self.volume.file);
+        let done = self.settle_volume();
         self.note(done)
     }
 
