@@ -21,4 +21,5 @@ pub mod InSequence
 pub mod WorkedSample
 pub mod Loading
 pub mod KeyOrder
+pub mod EightBytes
 mod Under

@@ -1,4 +1,4 @@
-ghost use Rattle.std.specs.Prelude.{◌≡◌, ◌↔◌, ◌==◌, length, IsTrue, IsSome, IfSome};
+ghost use Rattle.std.specs.Prelude.{◌≡◌, ◌↔◌, ◌==◌, length, IsTrue, IsSome, IfSome, bytes_eq};
 ghost use Rattle.std.specs.List.{list_all};
 ghost use Rattle.hd_dbd.specs.Naming.{is_name, is_name_byte, is_name_rest};
 
@@ -32,14 +32,8 @@ impl PartialEq for Name8 {
 
     ghost laws = { partial_equiv_from_equiv nat_list_eq_equiv };
 
-    // Each call asks names of the DBD and the PSB for equality, most of which differ in their first bytes.
     fn eq(&self, other: &Name8) -> bool {
-        for place in 0..8 {
-            if self.bytes[place] != other.bytes[place] {
-                return false;
-            }
-        }
-        true
+        self.is(&other.bytes)
     }
 }
 
@@ -59,6 +53,13 @@ impl Name8 {
         &self.bytes
     }
 
+    /// Whether the name is these eight bytes, with its blanks.
+    pub fn is(&self, bytes: &[u8; 8]) -> bool
+        ensures { result ≡ bytes_eq self.now bytes.now }
+    {
+        are_bytes(&self.bytes, bytes)
+    }
+
     /// The name that these bytes are, with its blanks; `None` where they are none.
     pub fn from_padded(bytes: [u8; 8]) -> Option<Name8>
         ensures found { IsSome result ↔ IsTrue (is_name bytes) }
@@ -70,6 +71,13 @@ impl Name8 {
             None
         }
     }
+}
+
+/// Whether eight bytes are these. They are compared at once, as numbers, since each call asks names of the DBD and the PSB.
+fn are_bytes(left: &[u8; 8], right: &[u8; 8]) -> bool
+    ensures { result ≡ bytes_eq left.now right.now }
+{
+    u64::from_be_bytes(*left) == u64::from_be_bytes(*right)
 }
 
 /// Whether a byte may stand in a name behind its first character.

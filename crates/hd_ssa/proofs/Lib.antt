@@ -4,4 +4,4 @@ pub mod Past
 pub mod Bounds
 pub mod Resolving
 pub mod Singles
-pub mod EightBytes
+pub mod AtOnce

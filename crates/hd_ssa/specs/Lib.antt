@@ -2,3 +2,4 @@ pub mod Texts
 pub mod LeastKeys
 pub mod Questions
 pub mod Named
+pub mod AtOnce

@@ -156,19 +156,12 @@ fn first_eight(text: &[u8]) -> [u8; 8]
     }
 }
 
-/// Whether eight bytes are these. They are compared at once, as numbers.
-fn are_bytes(left: &[u8; 8], right: &[u8; 8]) -> bool
-    ensures { result ≡ bytes_eq left.now right.now }
-{
-    u64::from_be_bytes(*left) == u64::from_be_bytes(*right)
-}
-
 /// Whether a text begins with the eight bytes of a name.
 fn begins_with_name(text: &[u8], name: &Name8) -> bool
     requires { 8 ≤ length text.now }
     ensures { result ≡ bytes_eq name.now (take 8 text.now) }
 {
-    are_bytes(name.bytes(), &first_eight(text))
+    name.is(&first_eight(text))
 }
 
 /// The field of the name with which a text begins.

@@ -3,6 +3,7 @@ ghost use Rattle.std.specs.Option.{ok_or};
 ghost use Rattle.std.specs.List.{prefix_len};
 ghost use Rattle.hd_dbd.specs.declared.answer.Status.TheVariants.{AJ};
 ghost use Rattle.hd_calls.specs.Ssas.{is_command, has_byte, commands_among, commands_length, head_ending, read_head};
+ghost use Rattle.hd_ssa.specs.AtOnce.{head_with_name};
 
 use hd_calls::Commands;
 use hd_dbd::{Name8, Status};
@@ -42,7 +43,13 @@ impl<'a> Ssa<'a> {
         ensures { result ≡ read_head bytes.now }
     {
         let (name, behind) = bytes.split_first_chunk::<8>()?;
-        let name = Name8::from_padded(*name)?;
+        Ssa::with_name(Name8::from_padded(*name)?, behind)
+    }
+
+    /// The head of this name, with what stands behind the name, where it is one.
+    pub(crate) fn with_name(name: Name8, behind: &'a [u8]) -> Option<Ssa<'a>>
+        ensures { result ≡ head_with_name name behind.now }
+    {
         let count = commands_length(behind);
         let commands = commands_among(&behind[..count]);
         Ssa::ending(name, commands, &behind[count..])

@@ -1,6 +1,7 @@
 //! Segment search arguments: how their bytes are read, which types and fields they name, and which rows have what they ask.
 #![tactic(auto)]
 
+mod at_once;
 mod comparison;
 mod fault;
 mod head;

@@ -1,5 +1,6 @@
-ghost use Rattle.std.specs.Prelude.{◌≡◌, ◌≢◌, ◌<◌, ◌≤◌, length, map, Err, Some, None, IfOk, IfErr, IfSome, option_map, position, bytes_eq};
+ghost use Rattle.std.specs.Prelude.{◌≡◌, ◌≢◌, ◌↔◌, ◌<◌, ◌≤◌, IsTrue, IsSome, length, map, Err, Some, None, IfOk, IfErr, IfSome, option_map, position, bytes_eq};
 ghost use Rattle.hd_dbd.specs.declared.answer.Status.TheVariants.{AJ};
+ghost use Rattle.hd_dbd.specs.Naming.{is_name};
 ghost use Rattle.hd_dbd.specs.ProgramRules.{type_names, code_named};
 ghost use Rattle.hd_calls.specs.Access.{seen_code};
 ghost use Rattle.hd_calls.specs.Ssas.{read_head};
@@ -49,12 +50,12 @@ impl<'a> Default for Named<'a> {
     }
 }
 
-/// Where the type of a name stands among all.
-fn place_named(types: &[SegType], name: &Name8) -> Option<usize>
+/// Where the type of the name of eight bytes stands among all.
+fn place_named(types: &[SegType], name: &[u8; 8]) -> Option<usize>
     ensures place { result ≡ position (λ t. bytes_eq t.name name.now) types.now }
     ensures bound { IfSome result (λ i. i < length types.now) }
 {
-    types.iter().position(|segment| segment.name == *name)
+    types.iter().position(|segment| segment.name.is(name))
 }
 
 /// The code of the type of a name, if there is one.
@@ -63,7 +64,7 @@ fn code_named(types: &[SegType], name: &Name8) -> Option<u8>
     requires { length types.now ≤ 255 }
     ensures { result ≡ code_named (type_names types.now) name.now }
 {
-    match place_named(types, name) {
+    match place_named(types, name.bytes()) {
         Some(place) => Some(place as u8 + 1),
         None => None,
     }
@@ -77,11 +78,26 @@ fn seen_code(dbd: &Dbd, pcb: &Pcb, name: &Name8) -> Option<u8>
     code_named(dbd.types(), name)
 }
 
+/// The name that eight bytes are, if they are one: that of a type is found before it is spelled.
+fn name_of(types: &[SegType], bytes: &[u8; 8]) -> Option<Name8>
+    ensures found { IsSome result ↔ IsTrue (is_name bytes.now) }
+    ensures same { IfSome result (λ n. n ≡ bytes.now) }
+{
+    match types.iter().find(|segment| segment.name.is(bytes)) {
+        Some(segment) => {
+            let _name = segment.name.bytes();
+            Some(segment.name)
+        }
+        None => Name8::from_padded(*bytes),
+    }
+}
+
 /// The head with which a text begins, with the code of its type.
-fn named_head<'a>(dbd: &Dbd, pcb: &Pcb, text: &'a [u8]) -> Option<Named<'a>>
+pub(crate) fn named_head<'a>(dbd: &Dbd, pcb: &Pcb, text: &'a [u8]) -> Option<Named<'a>>
     ensures { result ≡ option_map (λ h. named (record { types = dbd.now.types; pcb = pcb.now }) h) (read_head text.now) }
 {
-    let head = Ssa::head_of(text)?;
+    let (name, behind) = text.split_first_chunk::<8>()?;
+    let head = Ssa::with_name(name_of(dbd.types(), name)?, behind)?;
     Some(Named {
         code: seen_code(dbd, pcb, &head.name),
         commands: head.commands,

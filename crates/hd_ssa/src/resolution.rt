@@ -7,7 +7,9 @@ ghost use Rattle.hd_calls.specs.Satisfies.{qualifies};
 ghost use Rattle.hd_calls.specs.SearchKeys.{is_key_past};
 ghost use Rattle.hd_ssa.specs.LeastKeys.{least_key, NoneQualifiesBelow};
 ghost use Rattle.hd_ssa.specs.Named.{heads_in, code_below, codes_down, resolve_named};
+ghost use Rattle.hd_ssa.specs.AtOnce.{IsGet};
 
+use crate::at_once::read_down;
 use crate::fault::SsaFault;
 use crate::named::{Named, named_heads};
 use crate::qualification::Qualification;
@@ -110,7 +112,7 @@ impl<'a> ResolvedSsa<'a> {
 /// The segment search arguments of a call with their types. Up to four of them take no memory, and neither do their qualifications.
 #[derive(Drop)]
 pub struct Resolved<'a> {
-    ssas: SmallVec<ResolvedSsa<'a>, 4>,
+    pub(crate) ssas: SmallVec<ResolvedSsa<'a>, 4>,
 }
 
 impl<'a> Model for Resolved<'a> {
@@ -184,7 +186,7 @@ fn heads_suit(function: Function, pcb: &Pcb, heads: &[Named<'_>]) -> bool
 }
 
 /// The code of a head's type, where it is a proper descendant of the type above, if there is one.
-fn code_below(dbd: &Dbd, above: Option<u8>, head: &Named<'_>) -> Option<u8>
+pub(crate) fn code_below(dbd: &Dbd, above: Option<u8>, head: &Named<'_>) -> Option<u8>
     ensures { result ≡ code_below dbd.now.types above head.now }
 {
     let code = head.code?;
@@ -256,7 +258,7 @@ fn types_suit(function: Function, dbd: &Dbd, heads: &[Named<'_>], codes: &[u8]) 
 }
 
 /// One argument with its type, its qualification read where it has one.
-fn read_ssa<'a>(dbd: &'a Dbd, code: u8, head: &Named<'a>) -> Result<ResolvedSsa<'a>, Status>
+pub(crate) fn read_ssa<'a>(dbd: &'a Dbd, code: u8, head: &Named<'a>) -> Result<ResolvedSsa<'a>, Status>
     ensures { (s : Setting) → s.types ≡ dbd.now.types → result ≡ read_ssa s code head.now.head }
 {
     let qualification = match head.qualification {
@@ -342,6 +344,27 @@ fn resolve_texts<'a>(
     resolve_heads(alloc, function, heads.as_slice(), pcb, dbd)
 }
 
+/// What the texts of a get's segment search arguments mean to a PCB. Up to four that mean something are read one by one.
+fn resolve_get<'a>(
+    alloc: Global,
+    function: Function,
+    ssas: &'a [Vec<u8>],
+    pcb: &Pcb,
+    dbd: &'a Dbd,
+) -> Result<Resolved<'a>, SsaFault>
+    requires get { IsGet function }
+    ensures ok { IfOk result (λ r. resolve (record { types = dbd.now.types; pcb = pcb.now }) function (map (λ s. s.items) ssas.now) ≡ Ok r) }
+    ensures status { (st : Status) → result ≡ Err (SsaFault.Status st) → resolve (record { types = dbd.now.types; pcb = pcb.now }) function (map (λ s. s.items) ssas.now) ≡ Err st }
+    ensures memory { length ssas.now ≤ 4 → IfErr result (λ e. e ≢ SsaFault.Memory) }
+{
+    if ssas.len() <= 4 {
+        if let Some(resolved) = read_down(alloc, dbd, pcb, ssas) {
+            return Ok(resolved);
+        }
+    }
+    resolve_texts(alloc, function, ssas, pcb, dbd)
+}
+
 /// What the segment search arguments of a call mean to a PCB. Where they mean nothing it answers AJ for the heads, then AC for the
 /// types, then AJ or AK for the qualifications. Want of memory may come with five or more.
 pub fn resolve<'a>(
@@ -360,5 +383,8 @@ pub fn resolve<'a>(
             ssas: SmallVec::new(alloc),
         });
     }
-    resolve_texts(alloc, function, ssas, pcb, dbd)
+    match function {
+        Function::Get(_, _) => resolve_get(alloc, function, ssas, pcb, dbd),
+        _ => resolve_texts(alloc, function, ssas, pcb, dbd),
+    }
 }

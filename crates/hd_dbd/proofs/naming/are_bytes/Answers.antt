@@ -1,7 +1,7 @@
 use Rattle.std.proofs.Common.{ap₂, ◌∙◌}
 use Rattle.std.specs.Prelude.{◌==◌}
-use Rattle.hd_ssa.proofs.EightBytes.{equal_numbers}
-use Rattle.hd_ssa.proofs.comparison.are_bytes.Goals as goal
+use Rattle.hd_dbd.proofs.EightBytes.{equal_numbers}
+use Rattle.hd_dbd.proofs.naming.are_bytes.Goals as goal
 
 pub returns : goal.returns
 returns c =
