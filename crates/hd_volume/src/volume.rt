@@ -14,8 +14,9 @@ ghost use Rattle.hd_volume.specs.Steps.{IsStep};
 ghost use Rattle.hd_volume.specs.Calls.{IsCall, IsRead, HasSegment, KeepsSize, IsWritten, IsFreed};
 ghost use Rattle.hd_block.specs.Sizes.{size_at};
 
-use crate::blocks::{Blocks, LEAST_ASIDE};
+use crate::blocks::Blocks;
 use crate::load::{most_kept, size_table, survey};
+use crate::slots::LEAST_ASIDE;
 use crate::space::{Space, open_block};
 use crate::spacing::{Hints, MOST_CALLS, NO_SPACING};
 use hd_block::size_at;
