@@ -10,7 +10,8 @@ ghost use Rattle.hd_volume.specs.Buffers.{put_all, image_of, ChangesHand, Change
 
 use crate::buffer::{Buffer, bring, write_back};
 use crate::slots::{
-    bring_other, bring_zeros, empty_buffer, empty_buffers, is_held, write_all, write_first,
+    add_buffer, bring_other, bring_zeros, empty_buffer, empty_buffers, is_held, write_all,
+    write_first,
 };
 use hd_block::Block;
 use hd_bytes::{write_bytes, write_u32};
@@ -28,6 +29,8 @@ pub struct Blocks<S: BlockStore> {
     hand: Buffer,
     aside: Vec<Buffer>,
     block_size: usize,
+    kept: usize,
+    alloc: Global,
 }
 
 impl<S: BlockStore> Model for Blocks<S> {
@@ -50,8 +53,8 @@ impl<S: BlockStore> Model for Blocks<S> {
 }
 
 impl<S: BlockStore> Blocks<S> {
-    /// The blocks of a store, whose block 0 is read if it has one, with so many slots aside, three at least; memory that
-    /// is lacking beyond three only makes fewer. A refusal gives the store back.
+    /// The blocks of a store, whose block 0 is read if it has one, with a slot aside for each, so many at most and three at
+    /// least; memory that is lacking beyond three only makes fewer. A refusal gives the store back.
     pub fn new(alloc: Global, mut store: S, kept: usize) -> Result<Blocks<S>, (S, Refused)>
         ensures image { IfOk result (λ b. IsTrue (S.is_sound store) → (b.image ≡ S.contents store) × (b.stored ≡ S.contents store)) }
         ensures store { IfOk result (λ b. (b.is_sound ≡ S.is_sound store) × (b.failures ≡ S.failures store) × (b.room ≡ S.room store) × (b.committed ≡ S.committed store) × (b.size ≡ S.size store)) }
@@ -64,7 +67,8 @@ impl<S: BlockStore> Blocks<S> {
         let Ok(hand) = empty_buffer(alloc, block_size) else {
             return Err((store, Refused::Memory));
         };
-        let Ok(aside) = empty_buffers(alloc, block_size, kept) else {
+        let count = (store.length() / block_size as u64).min(kept as u64) as usize;
+        let Ok(aside) = empty_buffers(alloc, block_size, count) else {
             return Err((store, Refused::Memory));
         };
         if store.length() >= block_size as u64 {
@@ -78,6 +82,8 @@ impl<S: BlockStore> Blocks<S> {
             hand,
             aside,
             block_size,
+            kept,
+            alloc,
         })
     }
 
@@ -262,8 +268,8 @@ impl<S: BlockStore> Blocks<S> {
         self.store.reserve(blocks)
     }
 
-    /// Adds a block of zeros behind the last, which is in hand then and not read, where the last was whole. `Memory`, only
-    /// beyond the room reserved, leaves all as it was.
+    /// Adds a block of zeros behind the last, which is in hand then and not read, where the last was whole; its slot is
+    /// added, where there is one for each block. `Memory`, only beyond the room reserved, leaves all as it was.
     pub fn grow(&mut self) -> Result<(), Refused>
         requires there { IsTrue self.old.is_sound → HasBlock self.old.size self.old.image 0 }
         ensures image { OnOk result (IsTrue self.old.is_sound → self.new.image ≡ grown self.old.size self.old.image 1) }
@@ -284,7 +290,20 @@ impl<S: BlockStore> Blocks<S> {
             return Ok(());
         };
         bring_zeros(&mut self.store, &mut self.hand, &mut self.aside, n)?;
+        self.add_slot();
         Ok(())
+    }
+
+    /// Adds a slot for the block in hand, the last, where those before it have one each and more may be kept; want of
+    /// memory leaves the slots as they are.
+    fn add_slot(&mut self)
+        requires last { IsTrue self.old.is_sound → (0 < self.old.hand) × (length self.old.image ≡ self.old.hand * self.old.size + self.old.size) }
+        ensures { self.new ≡ self.old }
+    {
+        let count = self.aside.len();
+        if self.hand.number as usize == count && count < self.kept {
+            let _ = add_buffer(self.alloc, self.block_size, &mut self.aside);
+        }
     }
 
     /// The number of a block that is added behind the last; `None` where the last is not whole, or the number too great.

@@ -5,7 +5,7 @@ ghost use Rattle.hd_bytes.specs.Blocks.{block_of, HasBlock};
 ghost use Rattle.hd_stores.specs.Stores.{CountsDevice, StaysSound};
 ghost use Rattle.hd_volume.specs.Images.{KeepsFirst};
 ghost use Rattle.hd_volume.specs.declared.slots.TheConstants.{LEAST_ASIDE};
-ghost use Rattle.hd_volume.specs.Buffers.{AreBuffers, AreLater, IsBlockLong, HoldsNot, StandInSlots, IsExchanged, IsTurned, AreInBytes, IsWrittenBack, put_all, KeepsShown, image_of, KeepsImage};
+ghost use Rattle.hd_volume.specs.Buffers.{AreBuffers, AreLater, IsBlockLong, HoldsNot, StandInSlots, IsExchanged, IsTurned, AreInBytes, IsWrittenBack, HasMore, put_all, KeepsShown, image_of, KeepsImage};
 
 use crate::buffer::{Buffer, bring, hold_zeros, write_back};
 use hd_dbd::Refused;
@@ -53,12 +53,13 @@ pub fn empty_buffers(
     Ok(buffers)
 }
 
-/// Adds one to several that hold no block; want of memory leaves them as they were.
-fn add_buffer(alloc: Global, block_size: usize, buffers: &mut Vec<Buffer>) -> Result<(), AllocError>
-    requires len { AllByRecursion (IsBlockLong block_size) buffers.old.items }
-    requires empty { AllByRecursion (λ b. b.holds ≡ false) buffers.old.items }
-    ensures len { AllByRecursion (IsBlockLong block_size) buffers.new.items }
-    ensures empty { AllByRecursion (λ b. b.holds ≡ false) buffers.new.items }
+/// Adds one that holds no block to several; want of memory leaves them as they were.
+pub fn add_buffer(
+    alloc: Global,
+    block_size: usize,
+    buffers: &mut Vec<Buffer>,
+) -> Result<(), AllocError>
+    ensures added { HasMore block_size buffers.old.items buffers.new.items }
     ensures more { OnOk result (vec_len buffers.new ≡ vec_len buffers.old + 1) }
     ensures same { OnErr result (vec_len buffers.new ≡ vec_len buffers.old) }
 {
