@@ -266,11 +266,11 @@ pub put-empty : (size : ℕ) (c : List ℕ) (bs : List Buffer) → AllByRecursio
 put-empty size c [] h = refl
 put-empty size c (b ∷ rest) h = rw h.0 (put-empty size c rest h.1)
 
-none-held : (P : Buffer → Type 0) → ((b : Buffer) → b.holds ≡ false → P b) → (bs : List Buffer) → AllByRecursion (λ b. b.holds ≡ false) bs → AllByRecursion P bs
+pub none-held : (P : Buffer → Type 0) → ((b : Buffer) → b.holds ≡ false → P b) → (bs : List Buffer) → AllByRecursion (λ b. b.holds ≡ false) bs → AllByRecursion P bs
 none-held P f [] h = tt
 none-held P f (b ∷ rest) h = (f b h.0, none-held P f rest h.1)
 
-none-apart : (bs : List Buffer) → AllByRecursion (λ b. b.holds ≡ false) bs → AreApart bs
+pub none-apart : (bs : List Buffer) → AllByRecursion (λ b. b.holds ≡ false) bs → AreApart bs
 none-apart [] h = tt
 none-apart (b ∷ rest) h = let none : b.holds ≡ false = h.0 in ((λ holds. absurd (cc)), none-apart rest h.1)
 
@@ -281,7 +281,7 @@ empty-later size c bs h = record {
   apart = none-apart bs h;
 }
 
-none-stand : (count k : ℕ) (bs : List Buffer) → AllByRecursion (λ b. b.holds ≡ false) bs → StandFrom count k bs
+pub none-stand : (count k : ℕ) (bs : List Buffer) → AllByRecursion (λ b. b.holds ≡ false) bs → StandFrom count k bs
 none-stand count k [] h = tt
 none-stand count k (b ∷ rest) h = let none : b.holds ≡ false = h.0 in ((λ holds. absurd (cc)), none-stand count (k + 1) rest h.1)
 

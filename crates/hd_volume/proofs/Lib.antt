@@ -1,5 +1,6 @@
 pub mod BufferLemmas
 pub mod AsideLemmas
+pub mod SlotLemmas
 pub mod ExtentLemmas
 pub mod FreeLemmas
 pub mod EditLemmas

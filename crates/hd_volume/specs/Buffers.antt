@@ -1,5 +1,5 @@
 -- Blocks of a store in memory, and the image that they and the store make.
-use Rattle.std.specs.Prelude.{◌≡◌, ◌≢◌, ⊤, ℕ, ◌+◌, ◌%◌, ◌<◌, ◌≤◌, Bool, true, false, cond, IsTrue, List, [], ◌∷◌, length, Result, vec_len, slice_index_or, slice_set}
+use Rattle.std.specs.Prelude.{◌≡◌, ◌≢◌, ⊤, ℕ, ◌+◌, ◌%◌, ◌<◌, ◌≤◌, Bool, true, false, cond, IsTrue, List, [], ◌∷◌, ◌++◌, length, Result, vec_len, slice_index_or, slice_set}
 use Rattle.std.specs.List.{AllByRecursion}
 use Rattle.hd_bytes.specs.Blocks.{block_of, with_block, HasBlock}
 use Rattle.hd_dbd.specs.declared.answer.Refused.{Refused}
@@ -68,6 +68,13 @@ IsElsewhere count n b = b.holds ≡ true → slot_of count b.number ≢ slot_of 
 pub record StandInSlots (n : ℕ) (aside : List Buffer) : Type 0 where
   pub own : StandFrom (length aside) 0 aside
   pub free : AllByRecursion (IsElsewhere (length aside) n) aside
+
+-- buffers that hold no block stand behind those that were there, if any do
+pub record HasMore (size : ℕ) (old new : List Buffer) : Type 0 where
+  pub more : List Buffer
+  pub behind : new ≡ old ++ more
+  pub long : AllByRecursion (IsBlockLong size) more
+  pub empty : AllByRecursion (λ b. b.holds ≡ false) more
 
 -- the buffer in hand went into the slot of block n, and the one that stood there is in hand
 pub record IsExchanged (n : ℕ) (hand : Buffer) (aside : List Buffer) (hand2 : Buffer) (aside2 : List Buffer) : Type 0 where

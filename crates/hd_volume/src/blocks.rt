@@ -1,5 +1,4 @@
-ghost use Rattle.std.specs.Prelude.{◌≡◌, ◌≢◌, ℕ, ◌+◌, ◌*◌, ◌/◌, ◌%◌, ◌≤◌, ◌<◌, true, false, vec_len, IsTrue, length, ◌∷◌, replicate, None, OnOk, OnErr, IfOk, IfErr, IfSome, slice_index, max};
-ghost use Rattle.std.specs.List.{AllByRecursion, AllZip};
+ghost use Rattle.std.specs.Prelude.{◌≡◌, ◌≢◌, ℕ, ◌+◌, ◌*◌, ◌/◌, ◌%◌, ◌≤◌, ◌<◌, true, IsTrue, length, None, OnOk, OnErr, IfOk, IfErr, IfSome};
 ghost use Rattle.hd_dbd.specs.Refusals.{OnlyDevice, OnlyMemory};
 ghost use Rattle.hd_bytes.specs.Blocks.{block_of, grown, HasBlock};
 ghost use Rattle.hd_bytes.specs.Ranges.{with_bytes};
@@ -7,20 +6,19 @@ ghost use Rattle.byteorder.specs.Endian.{big_bytes};
 ghost use Rattle.hd_volume.specs.Edits.{IsTaken, IsGiven};
 ghost use Rattle.hd_stores.specs.Stores.{IsCommit, FailsCommit, CountsDevice, StaysSound, RefusesGrowth, IsGivenBack};
 ghost use Rattle.hd_volume.specs.Images.{ChangesBlock, KeepsFirst};
-ghost use Rattle.hd_volume.specs.declared.blocks.TheConstants.{LEAST_ASIDE};
-ghost use Rattle.hd_volume.specs.Buffers.{AreBuffers, AreLater, IsBlockLong, HoldsNot, StandInSlots, IsExchanged, IsTurned, AreInBytes, IsWrittenBack, put_all, KeepsShown, image_of, ChangesHand, ChangesHead, KeepsImage};
+ghost use Rattle.hd_volume.specs.Buffers.{put_all, image_of, ChangesHand, ChangesHead};
 
-use crate::buffer::{Buffer, bring, hold_zeros, write_back};
+use crate::buffer::{Buffer, bring, write_back};
+use crate::slots::{
+    add_buffer, bring_other, bring_zeros, empty_buffer, empty_buffers, is_held, write_all,
+    write_first,
+};
 use hd_block::Block;
 use hd_bytes::{write_bytes, write_u32};
 use hd_dbd::{Refused, SegmentSize};
 use hd_stores::{BlockStore, CommitStore};
-use std::alloc::{AllocError, Global};
+use std::alloc::Global;
 use std::marker::Model;
-use std::mem::swap;
-
-/// How many blocks at least are kept in memory beside block 0 and the one in hand.
-pub const LEAST_ASIDE: usize = 3;
 
 /// The blocks of a store, of which block 0 and some more are in memory: the one in hand, and those that were in hand
 /// before it, each in the slot of its number.
@@ -31,6 +29,8 @@ pub struct Blocks<S: BlockStore> {
     hand: Buffer,
     aside: Vec<Buffer>,
     block_size: usize,
+    kept: usize,
+    alloc: Global,
 }
 
 impl<S: BlockStore> Model for Blocks<S> {
@@ -53,8 +53,8 @@ impl<S: BlockStore> Model for Blocks<S> {
 }
 
 impl<S: BlockStore> Blocks<S> {
-    /// The blocks of a store, whose block 0 is read if it has one, with so many slots aside, three at least; memory that
-    /// is lacking beyond three only makes fewer. A refusal gives the store back.
+    /// The blocks of a store, whose block 0 is read if it has one, with a slot aside for each, so many at most and three at
+    /// least; memory that is lacking beyond three only makes fewer. A refusal gives the store back.
     pub fn new(alloc: Global, mut store: S, kept: usize) -> Result<Blocks<S>, (S, Refused)>
         ensures image { IfOk result (λ b. IsTrue (S.is_sound store) → (b.image ≡ S.contents store) × (b.stored ≡ S.contents store)) }
         ensures store { IfOk result (λ b. (b.is_sound ≡ S.is_sound store) × (b.failures ≡ S.failures store) × (b.room ≡ S.room store) × (b.committed ≡ S.committed store) × (b.size ≡ S.size store)) }
@@ -67,7 +67,8 @@ impl<S: BlockStore> Blocks<S> {
         let Ok(hand) = empty_buffer(alloc, block_size) else {
             return Err((store, Refused::Memory));
         };
-        let Ok(aside) = empty_buffers(alloc, block_size, kept) else {
+        let count = (store.length() / block_size as u64).min(kept as u64) as usize;
+        let Ok(aside) = empty_buffers(alloc, block_size, count) else {
             return Err((store, Refused::Memory));
         };
         if store.length() >= block_size as u64 {
@@ -81,6 +82,8 @@ impl<S: BlockStore> Blocks<S> {
             hand,
             aside,
             block_size,
+            kept,
+            alloc,
         })
     }
 
@@ -265,8 +268,8 @@ impl<S: BlockStore> Blocks<S> {
         self.store.reserve(blocks)
     }
 
-    /// Adds a block of zeros behind the last, which is in hand then and not read, where the last was whole. `Memory`, only
-    /// beyond the room reserved, leaves all as it was.
+    /// Adds a block of zeros behind the last, which is in hand then and not read, where the last was whole; its slot is
+    /// added, where there is one for each block. `Memory`, only beyond the room reserved, leaves all as it was.
     pub fn grow(&mut self) -> Result<(), Refused>
         requires there { IsTrue self.old.is_sound → HasBlock self.old.size self.old.image 0 }
         ensures image { OnOk result (IsTrue self.old.is_sound → self.new.image ≡ grown self.old.size self.old.image 1) }
@@ -287,7 +290,20 @@ impl<S: BlockStore> Blocks<S> {
             return Ok(());
         };
         bring_zeros(&mut self.store, &mut self.hand, &mut self.aside, n)?;
+        self.add_slot();
         Ok(())
+    }
+
+    /// Adds a slot for the block in hand, the last, where those before it have one each and more may be kept; want of
+    /// memory leaves the slots as they are.
+    fn add_slot(&mut self)
+        requires last { IsTrue self.old.is_sound → (0 < self.old.hand) × (length self.old.image ≡ self.old.hand * self.old.size + self.old.size) }
+        ensures { self.new ≡ self.old }
+    {
+        let count = self.aside.len();
+        if self.hand.number as usize == count && count < self.kept {
+            let _ = add_buffer(self.alloc, self.block_size, &mut self.aside);
+        }
     }
 
     /// The number of a block that is added behind the last; `None` where the last is not whole, or the number too great.
@@ -347,202 +363,6 @@ impl<S: CommitStore> Blocks<S> {
         self.flush()?;
         self.store.commit()
     }
-}
-
-/// A buffer that holds no block.
-fn empty_buffer(alloc: Global, block_size: usize) -> Result<Buffer, AllocError>
-    ensures len { IfOk result (λ b. vec_len b.bytes ≡ block_size) }
-    ensures empty { IfOk result (λ b. (b.holds ≡ false) × (b.number ≡ 0)) }
-{
-    let bytes = vec![in alloc; 0u8; block_size]?;
-    Ok(Buffer {
-        bytes,
-        number: 0,
-        holds: false,
-        changed: false,
-    })
-}
-
-/// So many of them, three at least; memory that is lacking beyond three only makes fewer.
-fn empty_buffers(alloc: Global, block_size: usize, kept: usize) -> Result<Vec<Buffer>, AllocError>
-    ensures len { IfOk result (λ v. AllByRecursion (IsBlockLong block_size) v.items) }
-    ensures empty { IfOk result (λ v. AllByRecursion (λ b. b.holds ≡ false) v.items) }
-    ensures least { IfOk result (λ v. LEAST_ASIDE ≤ vec_len v) }
-    ensures most { IfOk result (λ v. vec_len v ≤ max LEAST_ASIDE kept) }
-{
-    let mut buffers = Vec::new(alloc);
-    for _ in 0..LEAST_ASIDE {
-        add_buffer(alloc, block_size, &mut buffers)?;
-    }
-    for _ in LEAST_ASIDE..kept {
-        if add_buffer(alloc, block_size, &mut buffers).is_err() {
-            return Ok(buffers);
-        }
-    }
-    Ok(buffers)
-}
-
-/// Adds one to several that hold no block; want of memory leaves them as they were.
-fn add_buffer(alloc: Global, block_size: usize, buffers: &mut Vec<Buffer>) -> Result<(), AllocError>
-    requires len { AllByRecursion (IsBlockLong block_size) buffers.old.items }
-    requires empty { AllByRecursion (λ b. b.holds ≡ false) buffers.old.items }
-    ensures len { AllByRecursion (IsBlockLong block_size) buffers.new.items }
-    ensures empty { AllByRecursion (λ b. b.holds ≡ false) buffers.new.items }
-    ensures more { OnOk result (vec_len buffers.new ≡ vec_len buffers.old + 1) }
-    ensures same { OnErr result (vec_len buffers.new ≡ vec_len buffers.old) }
-{
-    buffers.push(empty_buffer(alloc, block_size)?)?;
-    Ok(())
-}
-
-/// Whether a buffer holds a block.
-fn is_held(buffer: &Buffer, n: u32) -> bool
-    ensures held { result ≡ true → (buffer.now.holds ≡ true) × (buffer.now.number ≡ n) }
-    ensures other { result ≡ false → HoldsNot n buffer.now }
-{
-    buffer.holds && buffer.number == n
-}
-
-/// Brings a block that is not in hand to hand.
-fn bring_other<S: BlockStore>(
-    store: &mut S,
-    hand: &mut Buffer,
-    aside: &mut [Buffer],
-    n: u32,
-) -> Result<(), Refused>
-    requires len { AllByRecursion (IsBlockLong (S.size store.old)) (hand.old ∷ aside.old) }
-    requires ready { IsTrue (S.is_sound store.old) → AreLater (S.size store.old) (S.contents store.old) (hand.old ∷ aside.old) }
-    requires there { IsTrue (S.is_sound store.old) → (0 < n) × HasBlock (S.size store.old) (S.contents store.old) n }
-    requires other { HoldsNot n hand.old }
-    requires slots { IsTrue (S.is_sound store.old) → StandInSlots hand.old.number aside.old }
-    ensures contents { OnOk result (IsTrue (S.is_sound store.old) → KeepsShown (S.size store.old) (S.contents store.old) hand.old aside.old (S.contents store.new) hand.new aside.new) }
-    ensures length { OnOk result (IsTrue (S.is_sound store.old) → length (S.contents store.new) ≡ length (S.contents store.old)) }
-    ensures first { OnOk result (IsTrue (S.is_sound store.old) → KeepsFirst (S.size store.old) (S.contents store.old) (S.contents store.new)) }
-    ensures stands { OnOk result (IsTrue (S.is_sound store.old) → AreInBytes (S.size store.old) (S.contents store.old) hand.old aside.old → S.contents store.new ≡ S.contents store.old) }
-    ensures ready { OnOk result (IsTrue (S.is_sound store.old) → AreLater (S.size store.old) (S.contents store.new) (hand.new ∷ aside.new)) }
-    ensures holds { OnOk result ((hand.new.holds ≡ true) × (hand.new.number ≡ n)) }
-    ensures slots { OnOk result (IsTrue (S.is_sound store.old) → StandInSlots hand.new.number aside.new) }
-    ensures len { AllByRecursion (IsBlockLong (S.size store.old)) (hand.new ∷ aside.new) }
-    ensures refusal { OnlyDevice result }
-    ensures counts { CountsDevice result (S.failures store.old) (S.failures store.new) }
-    ensures sound { StaysSound result (S.is_sound store.old) (S.is_sound store.new) }
-    ensures committed { S.committed store.new ≡ S.committed store.old }
-    ensures size { S.size store.new ≡ S.size store.old }
-    ensures room { S.room store.new ≡ S.room store.old }
-{
-    if turn_to(hand, aside, n) {
-        return Ok(());
-    }
-    bring(store, hand, n)?;
-    Ok(())
-}
-
-/// Brings a block of zeros to hand, and reads nothing.
-fn bring_zeros<S: BlockStore>(
-    store: &mut S,
-    hand: &mut Buffer,
-    aside: &mut [Buffer],
-    n: u32,
-) -> Result<(), Refused>
-    requires len { AllByRecursion (IsBlockLong (S.size store.old)) (hand.old ∷ aside.old) }
-    requires ready { IsTrue (S.is_sound store.old) → AreLater (S.size store.old) (S.contents store.old) (hand.old ∷ aside.old) }
-    requires there { IsTrue (S.is_sound store.old) → (0 < n) × HasBlock (S.size store.old) (S.contents store.old) n }
-    requires zeros { IsTrue (S.is_sound store.old) → block_of (S.size store.old) (S.contents store.old) n ≡ replicate (S.size store.old) 0 }
-    requires slots { IsTrue (S.is_sound store.old) → StandInSlots hand.old.number aside.old }
-    ensures contents { OnOk result (IsTrue (S.is_sound store.old) → KeepsShown (S.size store.old) (S.contents store.old) hand.old aside.old (S.contents store.new) hand.new aside.new) }
-    ensures length { OnOk result (IsTrue (S.is_sound store.old) → length (S.contents store.new) ≡ length (S.contents store.old)) }
-    ensures first { OnOk result (IsTrue (S.is_sound store.old) → KeepsFirst (S.size store.old) (S.contents store.old) (S.contents store.new)) }
-    ensures ready { OnOk result (IsTrue (S.is_sound store.old) → AreLater (S.size store.old) (S.contents store.new) (hand.new ∷ aside.new)) }
-    ensures holds { OnOk result ((hand.new.holds ≡ true) × (hand.new.number ≡ n)) }
-    ensures slots { OnOk result (IsTrue (S.is_sound store.old) → StandInSlots hand.new.number aside.new) }
-    ensures len { AllByRecursion (IsBlockLong (S.size store.old)) (hand.new ∷ aside.new) }
-    ensures refusal { OnlyDevice result }
-    ensures counts { CountsDevice result (S.failures store.old) (S.failures store.new) }
-    ensures sound { StaysSound result (S.is_sound store.old) (S.is_sound store.new) }
-    ensures committed { S.committed store.new ≡ S.committed store.old }
-    ensures size { S.size store.new ≡ S.size store.old }
-    ensures room { S.room store.new ≡ S.room store.old }
-{
-    if is_held(hand, n) {
-        return Ok(());
-    }
-    if turn_to(hand, aside, n) {
-        return Ok(());
-    }
-    write_back(store, hand)?;
-    hold_zeros(hand, n);
-    Ok(())
-}
-
-/// Puts the block in hand into its slot, and takes in hand what stands in the slot of block n; whether that is block n.
-fn turn_to(hand: &mut Buffer, aside: &mut [Buffer], n: u32) -> bool
-    requires other { HoldsNot n hand.old }
-    ensures turned { IsTurned n hand.old aside.old hand.new aside.new }
-    ensures found { result ≡ true → (hand.new.holds ≡ true) × (hand.new.number ≡ n) }
-    ensures none { result ≡ false → StandInSlots hand.old.number aside.old → AllByRecursion (HoldsNot n) (hand.new ∷ aside.new) }
-{
-    let own = hand.number;
-    exchange(hand, aside, own);
-    exchange(hand, aside, n);
-    is_held(hand, n)
-}
-
-/// Exchanges the buffer in hand for the one in the slot of a block, where there are slots.
-fn exchange(hand: &mut Buffer, aside: &mut [Buffer], n: u32)
-    ensures { IsExchanged n hand.old aside.old hand.new aside.new }
-{
-    let count = aside.len();
-    if count == 0 {
-        return;
-    }
-    swap(hand, &mut aside[n as usize % count]);
-}
-
-/// Writes the blocks of several buffers to the store, those that were changed.
-fn write_all<S: BlockStore>(store: &mut S, buffers: &mut [Buffer]) -> Result<(), Refused>
-    requires len { AllByRecursion (IsBlockLong (S.size store.old)) buffers.old }
-    requires ready { IsTrue (S.is_sound store.old) → AreLater (S.size store.old) (S.contents store.old) buffers.old }
-    ensures contents { OnOk result (IsTrue (S.is_sound store.old) → S.contents store.new ≡ put_all (S.size store.old) (S.contents store.old) buffers.old) }
-    ensures written { OnOk result (AllZip IsWrittenBack buffers.old buffers.new) }
-    ensures len { AllByRecursion (IsBlockLong (S.size store.old)) buffers.new }
-    ensures refusal { OnlyDevice result }
-    ensures counts { CountsDevice result (S.failures store.old) (S.failures store.new) }
-    ensures sound { StaysSound result (S.is_sound store.old) (S.is_sound store.new) }
-    ensures committed { S.committed store.new ≡ S.committed store.old }
-    ensures size { S.size store.new ≡ S.size store.old }
-    ensures room { S.room store.new ≡ S.room store.old }
-{
-    for buffer in buffers {
-        write_back(store, buffer)?;
-    }
-    Ok(())
-}
-
-/// Writes block 0 to the store, if it was changed, once the block in hand stands there.
-fn write_first<S: BlockStore>(
-    store: &mut S,
-    head: &mut Buffer,
-    hand: &Buffer,
-) -> Result<(), Refused>
-    requires len { (vec_len head.old.bytes ≡ S.size store.old) × (vec_len hand.now.bytes ≡ S.size store.old) }
-    requires ready { IsTrue (S.is_sound store.old) → AreBuffers (S.size store.old) (S.contents store.old) head.old hand.now }
-    requires number { head.old.number ≡ 0 }
-    requires others_stand { IsTrue (S.is_sound store.old) → hand.now.holds ≡ true → hand.now.changed ≡ false }
-    ensures contents { OnOk result (IsTrue (S.is_sound store.old) → S.contents store.new ≡ image_of (S.size store.old) (S.contents store.old) head.old hand.now) }
-    ensures image { OnOk result (IsTrue (S.is_sound store.old) → KeepsImage (S.size store.old) (S.contents store.old) head.old hand.now (S.contents store.new) head.new) }
-    ensures ready { OnOk result (IsTrue (S.is_sound store.old) → AreBuffers (S.size store.old) (S.contents store.new) head.new hand.now) }
-    ensures len { vec_len head.new.bytes ≡ S.size store.old }
-    ensures number { head.new.number ≡ 0 }
-    ensures refusal { OnlyDevice result }
-    ensures counts { CountsDevice result (S.failures store.old) (S.failures store.new) }
-    ensures sound { StaysSound result (S.is_sound store.old) (S.is_sound store.new) }
-    ensures committed { S.committed store.new ≡ S.committed store.old }
-    ensures size { S.size store.new ≡ S.size store.old }
-    ensures room { S.room store.new ≡ S.room store.old }
-{
-    let _ = hand;
-    write_back(store, head)?;
-    Ok(())
 }
 
 fn take_from(bytes: &mut [u8], sizes: &[SegmentSize], size: u16) -> Option<u16>

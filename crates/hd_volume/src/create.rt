@@ -4,8 +4,8 @@ ghost use Rattle.hd_volume.specs.Spacing.{IsPlain};
 ghost use Rattle.hd_volume.specs.Creates.{IsCreated, IsGivenNew, head_list};
 ghost use Rattle.hd_volume.specs.declared.load.TheConstants.{MOST_BLOCKS};
 
-use crate::blocks::LEAST_ASIDE;
 use crate::header::NEWEST_VERSION;
+use crate::slots::LEAST_ASIDE;
 use crate::volume::Volume;
 use hd_dbd::{Dbd, Refused};
 use hd_stores::BlockStore;

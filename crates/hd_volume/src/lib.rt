@@ -11,6 +11,7 @@ mod load;
 mod puts;
 mod rewrite;
 mod seek;
+mod slots;
 mod space;
 mod spacing;
 mod volume;

@@ -18,15 +18,6 @@ use std::alloc::{AllocError, Global};
 /// The most blocks that a volume has.
 pub const MOST_BLOCKS: u32 = 65536;
 
-/// How many blocks of a store are of use in memory: all, with room for the growth by a quarter and 64 more.
-pub fn most_kept<S: BlockStore>(store: &S) -> usize
-    ensures { result ≤ MOST_BLOCKS }
-{
-    let size = store.block_size() as u64;
-    let count = (store.length() / size).min(u64::from(MOST_BLOCKS)) as usize;
-    (count + count / 4 + 64).min(MOST_BLOCKS as usize)
-}
-
 /// The bytes that the segments of each type take, by code.
 pub fn size_table(alloc: Global, dbd: &Dbd) -> Result<Vec<SegmentSize>, AllocError>
     ensures sizes { IfOk result (λ v. v.items ≡ stored_sizes dbd.now.types) }

@@ -14,8 +14,9 @@ ghost use Rattle.hd_volume.specs.Steps.{IsStep};
 ghost use Rattle.hd_volume.specs.Calls.{IsCall, IsRead, HasSegment, KeepsSize, IsWritten, IsFreed};
 ghost use Rattle.hd_block.specs.Sizes.{size_at};
 
-use crate::blocks::{Blocks, LEAST_ASIDE};
-use crate::load::{most_kept, size_table, survey};
+use crate::blocks::Blocks;
+use crate::load::{MOST_BLOCKS, size_table, survey};
+use crate::slots::LEAST_ASIDE;
 use crate::space::{Space, open_block};
 use crate::spacing::{Hints, MOST_CALLS, NO_SPACING};
 use hd_block::size_at;
@@ -93,7 +94,7 @@ impl<S: BlockStore> Volume<S> {
         ensures store { IfOk result (λ v. (v.is_sound ≡ S.is_sound store) × (v.failures ≡ S.failures store) × (v.committed ≡ S.committed store) × (v.size ≡ S.size store) × (v.sizes ≡ stored_sizes dbd.now.types) × IsPlain v) }
         ensures refusal { IfErr result (λ e. IsGivenBack S.size S.contents S.is_sound S.failures S.committed store e) }
     {
-        let kept = kept.min(most_kept(&store));
+        let kept = kept.min(MOST_BLOCKS as usize);
         Volume::load_with(alloc, store, dbd, kept)
     }
 

@@ -2,7 +2,7 @@ use Rattle.std.proofs.Common.{ℕ, ◌∷◌, ◌∙◌, arith}
 use Rattle.std.specs.List.{AllByRecursion}
 use Rattle.hd_volume.specs.Buffers.{IsBlockLong, HoldsNot, AreLater, IsInBytes}
 use Rattle.hd_volume.proofs.AsideLemmas.{IsBrought, all-turned, later-turned, put-turned, later-brought, put-brought, slots-turned}
-use Rattle.hd_volume.proofs.blocks.bring_other.Goals as goal
+use Rattle.hd_volume.proofs.slots.bring_other.Goals as goal
 
 pub returns-then-turn_to-clause-contents : goal.returns-then-turn_to-clause-contents
 returns-then-turn_to-clause-contents g c sound = put-turned c.turn_to.ensures.turned c.requires.len (c.requires.ready sound)

@@ -1,7 +1,7 @@
 use Rattle.std.proofs.Common.{◌≡◌, IsTrue, take, drop}
 use Rattle.std.specs.List.{AllByRecursion, AllZip}
 use Rattle.hd_volume.specs.Buffers.{put_all, AreLater, IsBlockLong, IsWrittenBack}
-use Rattle.hd_volume.proofs.blocks.write_all.Given as goal
+use Rattle.hd_volume.proofs.slots.write_all.Given as goal
 
 abbrev pub invariant-loop-buffer : goal.invariant-loop-buffer
 invariant-loop-buffer g l = record {

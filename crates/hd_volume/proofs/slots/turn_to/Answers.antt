@@ -1,6 +1,6 @@
 use Rattle.hd_volume.specs.Buffers.{IsTurned}
 use Rattle.hd_volume.proofs.AsideLemmas.{other-turned}
-use Rattle.hd_volume.proofs.blocks.turn_to.Goals as goal
+use Rattle.hd_volume.proofs.slots.turn_to.Goals as goal
 
 pub returns-clause-none : goal.returns-clause-none
 returns-clause-none c other slots =

@@ -4,7 +4,7 @@ use Rattle.hd_bytes.specs.Blocks.{block_of}
 use Rattle.hd_volume.specs.Buffers.{IsBlockLong, HoldsNot, AreLater}
 use Rattle.hd_volume.proofs.BufferLemmas.{other-put_in}
 use Rattle.hd_volume.proofs.AsideLemmas.{IsBrought, all-turned, later-turned, put-turned, later-brought, put-brought, written-brought, slots-turned}
-use Rattle.hd_volume.proofs.blocks.bring_zeros.Goals as goal
+use Rattle.hd_volume.proofs.slots.bring_zeros.Goals as goal
 
 pub returns-then-turn_to-clause-contents : goal.returns-then-turn_to-clause-contents
 returns-then-turn_to-clause-contents g c sound = put-turned c.turn_to.ensures.turned c.requires.len (c.requires.ready sound)

@@ -4,7 +4,7 @@ use Rattle.std.proofs.lemmas.List.{get_or_default}
 use Rattle.hd_volume.specs.declared.buffer.Buffer.{Buffer}
 use Rattle.hd_volume.specs.Buffers.{IsBlockLong, IsWrittenBack}
 use Rattle.hd_volume.proofs.AsideLemmas.{IsNext, next-put, next-later, next-written, next-drop}
-use Rattle.hd_volume.proofs.blocks.write_all.Goals as goal
+use Rattle.hd_volume.proofs.slots.write_all.Goals as goal
 
 pub loop-buffer-preserved : goal.loop-buffer-preserved
 loop-buffer-preserved g c =

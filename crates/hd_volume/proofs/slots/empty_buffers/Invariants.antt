@@ -1,8 +1,8 @@
 use Rattle.std.proofs.Common.{◌≡◌, ◌≤◌, false, vec_len, max}
 use Rattle.std.specs.List.{AllByRecursion}
-use Rattle.hd_volume.specs.declared.blocks.TheConstants.{LEAST_ASIDE}
+use Rattle.hd_volume.specs.declared.slots.TheConstants.{LEAST_ASIDE}
 use Rattle.hd_volume.specs.Buffers.{IsBlockLong}
-use Rattle.hd_volume.proofs.blocks.empty_buffers.Given as goal
+use Rattle.hd_volume.proofs.slots.empty_buffers.Given as goal
 
 abbrev pub invariant-loop : goal.invariant-loop
 invariant-loop l =

@@ -1,7 +1,7 @@
 use Rattle.std.proofs.Common.{◌∙◌}
 use Rattle.hd_volume.specs.Buffers.{IsWrittenBack}
 use Rattle.hd_volume.proofs.BufferLemmas.{Buffers, stored-image, head-written, image-head-written}
-use Rattle.hd_volume.proofs.blocks.write_first.Goals as goal
+use Rattle.hd_volume.proofs.slots.write_first.Goals as goal
 
 pub returns-clause-contents : goal.returns-clause-contents
 returns-clause-contents g c sound =
