@@ -10,7 +10,7 @@ use std::rt::Files;
 pub const CACHE: u32 = 64;
 
 /// How many bytes of a volume are kept in memory for a command that changes it or makes it, where the command line does not say.
-const CHANGES_CACHE: u32 = 4_194_304;
+const CHANGES_CACHE: u32 = 16_777_216;
 
 /// How many blocks of a volume are kept in memory for a command that changes it or makes it, where the command line does not say.
 pub fn blocks_for_changes(dbd: &Dbd) -> u32 {

@@ -11,9 +11,9 @@ use std::alloc::{AllocError, Global};
 type Cost = (u8, u8, u32, u32, u32, usize, u32, u64);
 
 const COSTS: [Cost; 9] = [
-    // 127 roots of 16 bytes fill a data block, and 290 keys one of the index; above these 345 stand two, and the top. Of so many blocks as
-    // four megabytes have, as commands keep, each is added and written
-    (b'r', b'R', 100_000, 0, 0, 2048, 1137, 2 * 1137 + 1),
+    // 127 roots of 16 bytes fill a data block, and 290 keys one of the index; above these 345 stand two, and the top. Where all
+    // are kept in memory, each is added and written
+    (b'r', b'R', 100_000, 0, 0, 8192, 1137, 2 * 1137 + 1),
     // each block is read for its extents; each data block once more by the walk along the pointers, and once or twice for the entries that name its roots;
     // each index block at most eight times more; and 64 roots are looked at to tell whether they lie scattered
     (

@@ -97,7 +97,7 @@ const VOLUME: Word = Word {
 /// How many blocks of a volume are kept in memory.
 const CACHE: Word = Word {
     name: "CACHE",
-    help: "The blocks of the volume that are kept in memory, 1 to 65536; if it is not given 64, and 4 megabytes of them for deck and serve",
+    help: "The blocks of the volume that are kept in memory, 1 to 65536; if it is not given 64, and 16 megabytes of them for deck and serve",
     kind: Kind::BlocksBehind("cache", "BLOCKS"),
 };
 
