@@ -10,7 +10,7 @@ use std::test::Fail;
 const GET: Function = Function::Get(GetKind::Unique, false);
 
 /// The function of a letter.
-pub fn function_of(letter: u8) -> Function {
+fn function_of(letter: u8) -> Function {
     match letter {
         b'I' => Function::Insert,
         b'R' => Function::Replace,
@@ -32,7 +32,7 @@ fn texts(alloc: Global, line: &[u8]) -> Result<Vec<Vec<u8>>, AllocError> {
 }
 
 /// The status that arguments are answered with: blank where they mean something.
-pub fn status_of(
+fn status_of(
     alloc: Global,
     dbd: &Dbd,
     pcb: &Pcb,

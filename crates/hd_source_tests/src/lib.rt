@@ -5,13 +5,7 @@
 #[cfg(test)]
 mod argument_tests;
 #[cfg(test)]
-mod chance;
-#[cfg(test)]
-mod plain;
-#[cfg(test)]
 mod rows_tests;
-#[cfg(test)]
-mod rule_tests;
 #[cfg(test)]
 mod source_tests;
 #[cfg(test)]

@@ -21,9 +21,4 @@ impl Chance {
             .wrapping_add(1442695040888963407);
         (self.state >> 33) as u32 % end.max(1)
     }
-
-    /// A place in a list of so many.
-    pub fn place(&mut self, length: usize) -> usize {
-        self.below(u32::MAX) as usize % length.max(1)
-    }
 }

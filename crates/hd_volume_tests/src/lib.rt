@@ -23,10 +23,6 @@ mod lists;
 #[cfg(test)]
 mod log_tests;
 #[cfg(test)]
-mod plain_list;
-#[cfg(test)]
-mod random_tests;
-#[cfg(test)]
 mod stop_tests;
 #[cfg(test)]
 mod store_tests;
