@@ -25,7 +25,7 @@ fn play_and_print<S: BlockStore, O: Write>(
     dbd: &Dbd,
     psb: &Psb,
     kept: usize,
-    steps: &[Step],
+    steps: &[Step<'_>],
     store: S,
     out: &mut O,
 ) -> (S, Result<u64, Refusal>)
@@ -62,7 +62,7 @@ pub fn play_deck<S: BlockStore, O: Write, E: Write>(
     dbd: &Dbd,
     psb: &Psb,
     kept: usize,
-    steps: &[Step],
+    steps: &[Step<'_>],
     store: S,
     out: &mut O,
     err: &mut E,

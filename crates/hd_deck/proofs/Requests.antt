@@ -53,6 +53,10 @@ requests_of_one every number x = ap (λ (rs : List Request). ask x ∷ rs) (appe
 pub requested_none : (s : SessionState) (number : ℕ) (a : Option (List ℕ)) → s.broken ≡ false → PlaysRequests s [] number a a 0 s
 requested_none s number a whole = λ st sound stands. record { entries = []; done = done_none s st whole stands; printed = appends_none a; memory = refl }
 
+-- none of the requests was carried out
+pub none_asked : (s : SessionState) (requests : List Request) → s.broken ≡ false → DoesUntil s requests stop.Write s
+none_asked s requests whole = λ st sound stands. record { first = []; rest = requests; parts = refl; entries = []; done = done_none s st whole stands }
+
 -- one call makes nothing last
 lasts_of_one : (turn : Turn) (entries : List (Entry (List ℕ))) (last : List ℕ) (old new : Committed) → new ≡ old → Lasts (committed_by (ask turn ∷ []) entries last) old new
 lasts_of_one turn [] last old new same = same

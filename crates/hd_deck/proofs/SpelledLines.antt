@@ -13,6 +13,7 @@ use Rattle.hd_deck.specs.declared.deck.DeckFault.{DeckFault}
 use Rattle.hd_deck.specs.declared.deck.DeckFault.TheVariants.{K1, K2, K3, K4, K5, K6, K7}
 use Rattle.hd_deck.specs.Deck.{column, columns, number_in, hex_bytes, Statement, comment, select, call, argument, area_bytes, read_select, repeat_in, is_function, has_function, ssas_in, call_in, read_call, belongs_to_call, read_hex, read_part, read_line}
 use Rattle.hd_deck.specs.Spelling.{IsWord, IsNumber, IsCount, call_text, IsHead, IsSpelled, blank_line, star_line, s_line, l_line, l_line_with_argument, c_line, d_line, h_line, Says}
+use Rattle.hd_deck.proofs.Choices.{Said, true-is, same_said, by-test, guard-ok, map-or-ok}
 use Rattle.hd_deck.proofs.SpelledWords.{below-true, true-below, count_in, word-read, word-spelled, number-read, number-spelled, count-read, count-spelled}
 use Rattle.hd_deck.proofs.SpelledHex.{hex-read, hex-spelled}
 use Rattle.hd_deck.proofs.SpelledColumns.{padded, columns-of, padded-front, padded-blanks, blanks-wanted, padded-long, head_of, head-length, HasColumns, head-columns, columns-head}
@@ -37,9 +38,6 @@ short_line pcbs n is_open line = cond (is_blank line || column line 1 == 42) (Ok
 
 -- ---- what is spelled so is read so
 
-abbrev Said : Type 0
-Said = Result Statement DeckFault
-
 -- a PCB is one of so many
 known-pcb : (pcbs k : ℕ) → 0 < k → k ≤ pcbs → (nat_lt 0 k && nat_le k pcbs) ≡ true
 known-pcb pcbs k some known = grind (arith, nat_tests)
@@ -51,9 +49,6 @@ select-read pcbs n text k s some known =
 
 is-true : (b c : ℕ) → b ≡ c → (b == c) ≡ true
 is-true b c e = grind (arith, nat_tests)
-
-true-is : (b c : ℕ) → (b == c) ≡ true → b ≡ c
-true-is b c e = grind (arith, nat_tests)
 
 -- a call is read by its columns
 call-read : (n k : ℕ) (line count function letters : List ℕ) → HasColumns line count function → IsCount count k → IsWord is_letter function letters
@@ -118,23 +113,6 @@ line-read pcbs n is_open line s says may =
     cond-false (nat_lt 255 (length line)) (Err (K6 n)) (short_line pcbs n is_open line) e ∙ short-read pcbs n is_open line s says.spelled may
 
 -- ---- what is read so is spelled so
-
-same_said : (a b : Statement) → ◌≡◌ {A = Said} (Ok a) (Ok b) → a ≡ b
-same_said a b e = cc
-
--- a choice was made in one way, or in the other
-by-test : (c : Bool) (x y : Said) (s : Statement) → cond c x y ≡ Ok s → ((c ≡ true) × (x ≡ Ok s)) ⊎ ((c ≡ false) × (y ≡ Ok s))
-by-test true x y s h = inl (refl, h)
-by-test false x y s h = inr (refl, h)
-
--- a test that guards held
-guard-ok : (c : Bool) (x : Said) (e : DeckFault) (s : Statement) → cond c x (Err e) ≡ Ok s → (c ≡ true) × (x ≡ Ok s)
-guard-ok true x e s h = (refl, h)
-guard-ok false x e s h = absurd (cc)
-
-map-or-ok : {A : Type 0} (f : A → Said) (o : Option A) (e : DeckFault) (s : Statement) → option_map_or f o (Err e) ≡ Ok s → (x : A) × (o ≡ Some x) × (f x ≡ Ok s)
-map-or-ok f None e s h = absurd (cc)
-map-or-ok f (Some x) e s h = (x, refl, h)
 
 -- a line with this byte in column 1, which is no blank, begins with it
 begins : (line : List ℕ) (b : ℕ) → (column line 1 == b) ≡ true → b ≢ 32 → line ≡ b ∷ drop 1 line

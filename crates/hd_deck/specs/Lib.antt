@@ -1,5 +1,6 @@
 pub mod StepText
 pub mod Deck
+pub mod CallLines
 pub mod Lines
 pub mod Printing
 pub mod Runs

@@ -6,6 +6,7 @@ ghost use Rattle.hd_deck.specs.Commits.{is_due, commit_behind, requests_from, Co
 ghost use Rattle.hd_deck.specs.Runs.{step_turns, turns_of, StopsAt, Breaks};
 ghost use Rattle.hd_deck.specs.StepText.{StepFits};
 
+use crate::call_room::CallRoom;
 use crate::plays::{Count, Stop, play_call};
 use crate::step::Step;
 use hd_session::{Call, IoArea, Session};
@@ -103,9 +104,10 @@ fn play_calls_and_commit<S: CommitStore, W: Write>(
 /// The calls of one step, the first of which has the number, and the commits among them.
 fn play_step_and_commit<S: CommitStore, W: Write>(
     session: &mut Session<'_, S>,
-    step: &Step,
+    step: &Step<'_>,
     number: u64,
     every: Option<u32>,
+    room: &mut CallRoom,
     io: &mut IoArea,
     out: &mut W,
 ) -> Result<u64, Stop>
@@ -120,10 +122,13 @@ fn play_step_and_commit<S: CommitStore, W: Write>(
     ensures stops { IfErr result (λ e. StopsAt session.old e session.new) }
     ensures same_room { io.new.room ≡ io.old.room }
 {
+    if room.make(step).is_err() {
+        return Err(Stop::Write);
+    }
     play_calls_and_commit(
         session,
         step.pcb,
-        &step.call,
+        room.call(),
         step.repeat,
         number,
         every,
@@ -135,8 +140,9 @@ fn play_step_and_commit<S: CommitStore, W: Write>(
 /// The steps in their order, with a commit behind every so many of their calls.
 pub(crate) fn play_and_commit_steps<S: CommitStore, W: Write>(
     session: &mut Session<'_, S>,
-    steps: &[Step],
+    steps: &[Step<'_>],
     every: Option<u32>,
+    room: &mut CallRoom,
     io: &mut IoArea,
     out: &mut W,
 ) -> Result<Count, Stop>
@@ -153,7 +159,7 @@ pub(crate) fn play_and_commit_steps<S: CommitStore, W: Write>(
     let mut calls = 0u64;
     let mut memory = 0u64;
     for step in steps {
-        let lacking = play_step_and_commit(session, step, calls + 1, every, io, out)?;
+        let lacking = play_step_and_commit(session, step, calls + 1, every, room, io, out)?;
         calls += u64::from(step.repeat);
         memory += lacking;
     }

@@ -51,8 +51,8 @@ impl fmt::Display for DeckFault {
 ///
 /// A line ends with a line feed, and a carriage return before it is dropped. S selects the PCB of the calls that
 /// follow, L is a call. C, D and H belong to the call before: a segment search argument, bytes of the area, and bytes
-/// in hexadecimal digits. A blank line and one with a star in front say nothing.
-pub fn read_deck(alloc: Global, bytes: &[u8], pcbs: u8) -> Result<Vec<Step>, DeckFault>
+/// in hexadecimal digits. A blank line and one with a star in front say nothing. A step takes a few words beside the text, in which its call is left.
+pub fn read_deck<'t>(alloc: Global, bytes: &'t [u8], pcbs: u8) -> Result<Vec<Step<'t>>, DeckFault>
     requires { 0 < pcbs }
     ensures steps { IfOk result (λ v. deck pcbs bytes.now ≡ Ok v.items) }
     ensures fault { IfErr result (λ e. e ≢ DeckFault.Memory → deck pcbs bytes.now ≡ Err e) }
@@ -64,8 +64,8 @@ pub fn read_deck(alloc: Global, bytes: &[u8], pcbs: u8) -> Result<Vec<Step>, Dec
     let mut number = 1;
     'lines: while !rest.is_empty() {
         let (line, after) = next_line(rest);
-        let statement = read_line(alloc, line, number, pcbs, reader.is_open())?;
-        reader.follow(statement)?;
+        let statement = read_line(line, number, pcbs, reader.is_open())?;
+        reader.follow(statement, rest)?;
         number += 1;
         rest = after;
     }

@@ -1,26 +1,41 @@
-ghost use Rattle.std.specs.Prelude.{◌≡◌, ◌<◌, option_map, IfOk, IfSome};
+ghost use Rattle.std.specs.Prelude.{◌≡◌, ◌<◌, ◌++◌, [], unwrap_or, IfOk, IfSome};
+ghost use Rattle.std.specs.Option.{is_some};
 ghost use Rattle.hd_deck.specs.Deck.{hex_byte, hex_bytes, hex_value};
 
-use std::alloc::{AllocError, Global};
+use std::alloc::AllocError;
 
-/// The bytes that hexadecimal digits spell, two digits each, or none where they spell none.
-pub(crate) fn hex_bytes(alloc: Global, digits: &[u8]) -> Result<Option<Vec<u8>>, AllocError>
-    ensures { IfOk result (λ spelled. option_map (λ v. v.items) spelled ≡ hex_bytes digits.now) }
+/// Whether hexadecimal digits spell bytes, two digits each.
+pub(crate) fn are_hex_bytes(digits: &[u8]) -> bool
+    ensures { result ≡ is_some (hex_bytes digits.now) }
 {
-    let mut bytes = Vec::new(alloc);
+    let mut rest = digits;
+    'pairs: while rest.len() > 1 {
+        if hex_byte(rest[0], rest[1]).is_none() {
+            return false;
+        }
+        rest = &rest[2..];
+    }
+    rest.is_empty()
+}
+
+/// Puts the bytes that hexadecimal digits spell, two digits each, behind others: none where they spell none.
+pub(crate) fn put_hex_bytes(bytes: &mut Vec<u8>, digits: &[u8]) -> Result<(), AllocError>
+    ensures { IfOk result (λ _. bytes.new.items ≡ bytes.old.items ++ unwrap_or (hex_bytes digits.now) []) }
+{
+    let before = bytes.len();
     let mut rest = digits;
     'pairs: while rest.len() > 1 {
         let Some(byte) = hex_byte(rest[0], rest[1]) else {
-            return Ok(None);
+            bytes.truncate(before);
+            return Ok(());
         };
         bytes.push(byte)?;
         rest = &rest[2..];
     }
-    if rest.is_empty() {
-        Ok(Some(bytes))
-    } else {
-        Ok(None)
+    if !rest.is_empty() {
+        bytes.truncate(before);
     }
+    Ok(())
 }
 
 /// The byte that two digits spell.

@@ -1,41 +1,38 @@
-ghost use Rattle.std.specs.Prelude.{◌≡◌, ◌≢◌, ◌==◌, ◌<◌, ◌≤◌, ◌-◌, min, length, drop, map, option_map, Ok, Err, IfOk, IfErr, IfSome};
+ghost use Rattle.std.specs.Prelude.{◌≡◌, ◌==◌, ◌<◌, ◌≤◌, ◌-◌, min, length, drop, option_map, Ok, Err, IfOk, IfErr, IfSome};
 ghost use Rattle.std.specs.List.{prefix_len};
 ghost use Rattle.hd_dbd.specs.Naming.{is_letter};
-ghost use Rattle.hd_deck.specs.Deck.{argument, area_bytes, belongs_to_call, call, call_in, column, columns, has_function, is_function, number_in, read_call, read_hex, read_line, read_part, read_select, repeat_in, ssas_in, select};
+ghost use Rattle.hd_deck.specs.Deck.{belongs_to_call, call, call_in, column, columns, has_function, is_function, number_in, read_call, read_hex, read_line, read_part, read_select, repeat_in, select};
 ghost use Rattle.hd_lines.specs.Digits.{is_digit, value_of};
-ghost use Rattle.hd_deck.specs.Lines.{said, StatementFits};
+ghost use Rattle.hd_deck.specs.Lines.{kind_in, KindFits};
 
 use crate::deck::DeckFault;
-use crate::hex::hex_bytes;
+use crate::hex::are_hex_bytes;
 use hd_lines::{is_blank, unpadded};
-use hd_session::Call;
-use std::alloc::{AllocError, Global};
 
-/// What a line of a deck says.
-#[derive(Drop)]
+/// What a line of a deck says. What it says of a call is read when the call is made.
+#[derive(Clone, Copy)]
 pub(crate) enum Statement {
     Comment,
     /// The PCB of the calls that follow.
     Select(u8),
     /// A call, and how often it is made.
-    Call(u16, Call),
+    Call(u16),
     /// A segment search argument more for the call before.
-    Argument(Vec<u8>),
+    Argument,
     /// Bytes behind the area of the call before.
-    Bytes(Vec<u8>),
+    Bytes,
 }
 
 /// What a line says, where a call is open before it or not, or its first fault.
 pub(crate) fn read_line(
-    alloc: Global,
     line: &[u8],
     number: usize,
     pcbs: u8,
     is_open: bool,
 ) -> Result<Statement, DeckFault>
-    ensures says { IfOk result (λ s. read_line pcbs number is_open line.now ≡ Ok (said s)) }
-    ensures fault { IfErr result (λ e. e ≢ DeckFault.Memory → read_line pcbs number is_open line.now ≡ Err e) }
-    ensures fit { IfOk result (λ s. StatementFits pcbs (said s)) }
+    ensures says { IfOk result (λ s. kind_in (read_line pcbs number is_open line.now) ≡ Ok s) }
+    ensures fault { IfErr result (λ e. read_line pcbs number is_open line.now ≡ Err e) }
+    ensures fit { IfOk result (λ s. KindFits pcbs s) }
 {
     if line.len() > 255 {
         return Err(DeckFault::K6(number));
@@ -46,13 +43,10 @@ pub(crate) fn read_line(
     match column(line, 1) {
         b'*' => Ok(Statement::Comment),
         b'S' => Ok(Statement::Select(read_select(line, number, pcbs)?)),
-        b'L' => {
-            let (repeat, call) = read_call(alloc, line, number)?;
-            Ok(Statement::Call(repeat, call))
-        }
+        b'L' => Ok(Statement::Call(read_call(line, number)?)),
         _ if !belongs_to_call(line) => Err(DeckFault::K1(number)),
         _ if !is_open => Err(DeckFault::K4(number)),
-        _ => read_part(alloc, line, number),
+        _ => read_part(line, number),
     }
 }
 
@@ -64,53 +58,44 @@ fn belongs_to_call(line: &[u8]) -> bool
 }
 
 /// What a line with a C, a D or an H in front adds to the call before. It fits a program without PCBs, and so any other.
-fn read_part(alloc: Global, line: &[u8], number: usize) -> Result<Statement, DeckFault>
-    ensures says { IfOk result (λ s. read_part number line.now ≡ Ok (said s)) }
-    ensures fault { IfErr result (λ e. e ≢ DeckFault.Memory → read_part number line.now ≡ Err e) }
-    ensures fit { IfOk result (λ s. StatementFits 0 (said s)) }
+fn read_part(line: &[u8], number: usize) -> Result<Statement, DeckFault>
+    ensures says { IfOk result (λ s. kind_in (read_part number line.now) ≡ Ok s) }
+    ensures fault { IfErr result (λ e. read_part number line.now ≡ Err e) }
+    ensures fit { IfOk result (λ s. KindFits 0 s) }
 {
     match column(line, 1) {
-        b'C' => Ok(Statement::Argument(bytes_from(alloc, line, 12)?)),
-        b'D' => Ok(Statement::Bytes(bytes_from(alloc, line, 2)?)),
-        _ => read_hex(alloc, line, number),
+        b'C' => Ok(Statement::Argument),
+        b'D' => Ok(Statement::Bytes),
+        _ => read_hex(line, number),
     }
 }
 
 /// What a line with an H in front adds to the call before, likewise.
-fn read_hex(alloc: Global, line: &[u8], number: usize) -> Result<Statement, DeckFault>
-    ensures says { IfOk result (λ s. read_hex number line.now ≡ Ok (said s)) }
-    ensures fault { IfErr result (λ e. e ≢ DeckFault.Memory → read_hex number line.now ≡ Err e) }
-    ensures fit { IfOk result (λ s. StatementFits 0 (said s)) }
+fn read_hex(line: &[u8], number: usize) -> Result<Statement, DeckFault>
+    ensures says { IfOk result (λ s. kind_in (read_hex number line.now) ≡ Ok s) }
+    ensures fault { IfErr result (λ e. read_hex number line.now ≡ Err e) }
+    ensures fit { IfOk result (λ s. KindFits 0 s) }
 {
-    match hex_bytes(alloc, from_column(line, 2)) {
-        Ok(Some(bytes)) => Ok(Statement::Bytes(bytes)),
-        Ok(None) => Err(DeckFault::K7(number)),
-        Err(AllocError) => Err(DeckFault::Memory),
+    if are_hex_bytes(from_column(line, 2)) {
+        Ok(Statement::Bytes)
+    } else {
+        Err(DeckFault::K7(number))
     }
 }
 
 /// The bytes from a column on, counted from 1: none where the line is shorter.
-fn from_column(line: &[u8], number: usize) -> &[u8]
+pub(crate) fn from_column(line: &[u8], number: usize) -> &[u8]
     requires { 0 < number }
     ensures { result.now ≡ drop (number - 1) line.now }
 {
     line.get(number - 1..).unwrap_or(&[])
 }
 
-/// A copy of the bytes from a column on. The fault is `Memory`.
-fn bytes_from(alloc: Global, line: &[u8], number: usize) -> Result<Vec<u8>, DeckFault>
-    requires { 0 < number }
-    ensures bytes { IfOk result (λ v. v.items ≡ drop (number - 1) line.now) }
-    ensures memory { IfErr result (λ e. e ≡ DeckFault.Memory) }
-{
-    Vec::from_slice(alloc, from_column(line, number)).map_err(|_| DeckFault::Memory)
-}
-
 /// The PCB that a line with an S in front selects, one of so many.
 fn read_select(line: &[u8], number: usize, pcbs: u8) -> Result<u8, DeckFault>
     requires { 0 < length line.now }
     ensures says { IfOk result (λ k. read_select pcbs number line.now ≡ Ok (select k)) }
-    ensures fault { IfErr result (λ e. (e ≢ DeckFault.Memory) × (read_select pcbs number line.now ≡ Err e)) }
+    ensures fault { IfErr result (λ e. read_select pcbs number line.now ≡ Err e) }
     ensures fit { IfOk result (λ k. (0 < k) × (k ≤ pcbs)) }
 {
     match number_in(&line[1..]) {
@@ -119,11 +104,11 @@ fn read_select(line: &[u8], number: usize, pcbs: u8) -> Result<u8, DeckFault>
     }
 }
 
-/// The call of a line with an L in front, and how often it is made.
-fn read_call(alloc: Global, line: &[u8], number: usize) -> Result<(u16, Call), DeckFault>
-    ensures says { IfOk result (λ r. read_call number line.now ≡ Ok (call r.0 r.1)) }
-    ensures fault { IfErr result (λ e. e ≢ DeckFault.Memory → read_call number line.now ≡ Err e) }
-    ensures fit { IfOk result (λ r. (0 < r.0) × (r.0 ≤ 9999)) }
+/// How often the call of a line with an L in front is made.
+fn read_call(line: &[u8], number: usize) -> Result<u16, DeckFault>
+    ensures says { IfOk result (λ k. read_call number line.now ≡ Ok (call k (call_in line.now))) }
+    ensures fault { IfErr result (λ e. read_call number line.now ≡ Err e) }
+    ensures fit { IfOk result (λ k. (0 < k) × (k ≤ 9999)) }
 {
     let Some(repeat) = repeat_in(line) else {
         return Err(DeckFault::K5(number));
@@ -131,32 +116,7 @@ fn read_call(alloc: Global, line: &[u8], number: usize) -> Result<(u16, Call), D
     if !has_function(line) {
         return Err(DeckFault::K2(number));
     }
-    let call = call_in(alloc, line).map_err(|_| DeckFault::Memory)?;
-    Ok((repeat, call))
-}
-
-/// The call that an L line makes, if its columns are right.
-fn call_in(alloc: Global, line: &[u8]) -> Result<Call, AllocError>
-    ensures { IfOk result (λ c. c ≡ call_in line.now) }
-{
-    let ssas = ssas_in(alloc, line)?;
-    Ok(Call {
-        func: four_columns(line, 7),
-        ssas,
-        area: Vec::new(alloc),
-    })
-}
-
-/// What stands from column 12 on, if the line goes so far.
-fn ssas_in(alloc: Global, line: &[u8]) -> Result<Vec<Vec<u8>>, AllocError>
-    ensures { IfOk result (λ v. map (λ s. s.items) v.items ≡ ssas_in line.now) }
-{
-    let mut ssas = Vec::new(alloc);
-    if line.len() > 11 {
-        let ssa = Vec::from_slice(alloc, &line[11..])?;
-        ssas.push(ssa)?;
-    }
-    Ok(ssas)
+    Ok(repeat)
 }
 
 /// How often an L line's call is made, by columns 2 to 5.
@@ -228,7 +188,7 @@ fn letters_in_front(bytes: &[u8]) -> usize
 }
 
 /// The byte in a column, counted from 1.
-fn column(line: &[u8], number: usize) -> u8
+pub(crate) fn column(line: &[u8], number: usize) -> u8
     requires { 0 < number }
     ensures { result ≡ column line.now number }
 {
@@ -236,7 +196,7 @@ fn column(line: &[u8], number: usize) -> u8
 }
 
 /// Four bytes from a column on, counted from 1.
-fn four_columns(line: &[u8], number: usize) -> [u8; 4]
+pub(crate) fn four_columns(line: &[u8], number: usize) -> [u8; 4]
     requires above { 0 < number }
     requires below { number ≤ 252 }
     ensures value { result ≡ columns line.now number 4 }

@@ -5,6 +5,7 @@ ghost use Rattle.hd_deck.specs.StepText.{StepFits};
 ghost use Rattle.hd_session.specs.Turns.{StaysWhole};
 ghost use Rattle.hd_deck.specs.Runs.{step_turns, turns_of, memory_of, PlaysAll, PlaysUntil, StopsAt};
 
+use crate::call_room::CallRoom;
 use crate::lines::print_outcome;
 use crate::step::Step;
 use hd_dbd::Refused;
@@ -95,8 +96,9 @@ fn play_calls<S: BlockStore, W: Write>(
 /// The calls of one step, the first of which has the number.
 fn play_step<S: BlockStore, W: Write>(
     session: &mut Session<'_, S>,
-    step: &Step,
+    step: &Step<'_>,
     number: u64,
+    room: &mut CallRoom,
     io: &mut IoArea,
     out: &mut W,
 ) -> Result<u64, Stop>
@@ -112,7 +114,10 @@ fn play_step<S: BlockStore, W: Write>(
     ensures committed { session.new.volume.committed ≡ session.old.volume.committed }
     ensures same_room { io.new.room ≡ io.old.room }
 {
-    play_calls(session, step.pcb, &step.call, step.repeat, number, io, out)
+    if room.make(step).is_err() {
+        return Err(Stop::Write);
+    }
+    play_calls(session, step.pcb, room.call(), step.repeat, number, io, out)
 }
 
 /// How many calls were made, and how many of them found no memory.
@@ -125,7 +130,8 @@ pub(crate) struct Count {
 /// The steps in their order.
 pub(crate) fn play_steps<S: BlockStore, W: Write>(
     session: &mut Session<'_, S>,
-    steps: &[Step],
+    steps: &[Step<'_>],
+    room: &mut CallRoom,
     io: &mut IoArea,
     out: &mut W,
 ) -> Result<Count, Stop>
@@ -143,7 +149,7 @@ pub(crate) fn play_steps<S: BlockStore, W: Write>(
     let mut calls = 0u64;
     let mut memory = 0u64;
     for step in steps {
-        let lacking = play_step(session, step, calls + 1, io, out)?;
+        let lacking = play_step(session, step, calls + 1, room, io, out)?;
         calls += u64::from(step.repeat);
         memory += lacking;
     }

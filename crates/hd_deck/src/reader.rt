@@ -1,22 +1,23 @@
-ghost use Rattle.std.specs.Prelude.{◌≡◌, ◌∷◌, ◌++◌, [], IfOk, IfErr};
-ghost use Rattle.hd_deck.specs.Deck.{after, at_first_line, with_argument, with_bytes, with_last};
-ghost use Rattle.hd_deck.specs.Lines.{said};
+ghost use Rattle.std.specs.Prelude.{◌≡◌, IfOk, IfErr};
+ghost use Rattle.std.specs.Str.Lines.{lines};
+ghost use Rattle.hd_deck.specs.Deck.{at_first_line};
+ghost use Rattle.hd_deck.specs.Lines.{followed_by};
 
 use crate::deck::DeckFault;
 use crate::line::Statement;
 use crate::step::Step;
-use std::alloc::{AllocError, Global};
+use std::alloc::Global;
 use std::marker::Model;
 
-/// What the lines of a deck have said so far.
+/// What the lines of a deck have said so far. A step has its whole call as soon as the line of the call is read.
 #[derive(Drop)]
-pub(crate) struct Reader {
+pub(crate) struct Reader<'t> {
     pcb: u8,
     is_open: bool,
-    steps: Vec<Step>,
+    steps: Vec<Step<'t>>,
 }
 
-impl Model for Reader {
+impl<'t> Model for Reader<'t> {
     ghost use Rattle.hd_deck.specs.Deck.{Reading};
 
     ghost Value = { Reading };
@@ -24,8 +25,8 @@ impl Model for Reader {
     ghost view = { λ r. record { pcb = r.pcb; is_open = r.is_open; steps = r.steps.items } };
 }
 
-impl Reader {
-    pub(crate) fn new(alloc: Global) -> Reader
+impl<'t> Reader<'t> {
+    pub(crate) fn new(alloc: Global) -> Reader<'t>
         ensures { result ≡ at_first_line }
     {
         Reader {
@@ -42,57 +43,47 @@ impl Reader {
         self.is_open
     }
 
-    pub(crate) fn into_steps(self) -> Vec<Step>
-        ensures { result.items ≡ self.steps }
+    pub(crate) fn into_steps(self) -> Vec<Step<'t>>
+        ensures { result.items ≡ self.entry.steps }
     {
         self.steps
     }
 
-    /// Adds what a line says. After `Memory` nothing is known of the steps.
-    pub(crate) fn follow(&mut self, statement: Statement) -> Result<(), DeckFault>
-        ensures next { IfOk result (λ _. self.new ≡ after (said statement) self.old) }
+    /// Adds what the first line of a text says. After `Memory` nothing is known of the steps.
+    pub(crate) fn follow(&mut self, statement: Statement, text: &'t [u8]) -> Result<(), DeckFault>
+        ensures next { IfOk result (λ _. self.new ≡ followed_by statement (lines text.now) self.old) }
         ensures memory { IfErr result (λ e. e ≡ DeckFault.Memory) }
     {
         match statement {
-            Statement::Comment => Ok(()),
+            Statement::Comment | Statement::Bytes => Ok(()),
             Statement::Select(pcb) => {
                 self.pcb = pcb;
                 self.is_open = false;
                 Ok(())
             }
-            Statement::Call(repeat, call) => {
+            Statement::Call(repeat) => {
                 self.is_open = true;
-                let pcb = self.pcb;
-                self.steps
-                    .push(Step { pcb, repeat, call })
-                    .map_err(|_| DeckFault::Memory)
+                let step = Step {
+                    pcb: self.pcb,
+                    repeat,
+                    arguments: 1,
+                    text,
+                };
+                self.steps.push(step).map_err(|_| DeckFault::Memory)
             }
-            Statement::Argument(ssa) => {
-                add_argument(&mut self.steps, ssa).map_err(|_| DeckFault::Memory)
-            }
-            Statement::Bytes(bytes) => {
-                add_bytes(&mut self.steps, &bytes).map_err(|_| DeckFault::Memory)
+            Statement::Argument => {
+                count_argument(&mut self.steps);
+                Ok(())
             }
         }
     }
 }
 
-/// Gives the call of the last step one segment search argument more.
-fn add_argument(steps: &mut Vec<Step>, ssa: Vec<u8>) -> Result<(), AllocError>
-    ensures { IfOk result (λ _. steps.new.items ≡ with_last (with_argument ssa.items) steps.old.items) }
+/// Counts one argument more for the call of the last step.
+fn count_argument(steps: &mut Vec<Step<'_>>)
+    ensures { steps.new.items ≡ steps.old.items }
 {
-    match steps.last_mut() {
-        Some(step) => step.add_argument(ssa),
-        None => Ok(()),
-    }
-}
-
-/// Puts bytes behind the area of the last step's call.
-fn add_bytes(steps: &mut Vec<Step>, bytes: &[u8]) -> Result<(), AllocError>
-    ensures { IfOk result (λ _. steps.new.items ≡ with_last (with_bytes bytes.now) steps.old.items) }
-{
-    match steps.last_mut() {
-        Some(step) => step.add_bytes(bytes),
-        None => Ok(()),
+    if let Some(step) = steps.last_mut() {
+        step.arguments = step.arguments.saturating_add(1);
     }
 }

@@ -7,6 +7,7 @@ ghost use Rattle.hd_deck.specs.Commits.{stored_in, requests_from, PlaysRequestsO
 ghost use Rattle.hd_deck.specs.StepText.{StepFits};
 ghost use Rattle.hd_deck.specs.Runs.{turns_of, IsRunFaultOf, IsBeforeCalls, fault_of, fault_refusal, PlaysOut, LeavesAt, IsRunWhole};
 
+use crate::call_room::CallRoom;
 use crate::commits::play_and_commit_steps;
 use crate::plays::{Stop, play_steps};
 use crate::step::Step;
@@ -22,7 +23,7 @@ use std::io::Write;
 pub enum RunFault {
     /// The session was not opened; no call was made.
     Open(OpenFault),
-    /// No memory for the volume or for the I/O area; no call was made.
+    /// No memory for the volume, for the calls or for the I/O area; no call was made.
     Memory,
     /// An access of the store failed.
     Device,
@@ -50,7 +51,8 @@ fn fault_of(stop: Stop) -> RunFault
 /// Plays the steps in a session, and closes it.
 fn play_and_close<S: BlockStore, W: Write>(
     mut session: Session<'_, S>,
-    steps: &[Step],
+    steps: &[Step<'_>],
+    room: &mut CallRoom,
     io: &mut IoArea,
     out: &mut W,
 ) -> Result<RunEnd<S>, (S, Stop)>
@@ -70,7 +72,7 @@ fn play_and_close<S: BlockStore, W: Write>(
     ensures size { IfOk result (λ e. S.size e.store ≡ session.entry.volume.size) }
     ensures given_size { IfErr result (λ e. S.size e.0 ≡ session.entry.volume.size) }
 {
-    let played = play_steps(&mut session, steps, io, out);
+    let played = play_steps(&mut session, steps, room, io, out);
     let (store, closed) = session.close();
     if closed.is_err() {
         return Err((store, Stop::Device));
@@ -88,8 +90,9 @@ fn play_and_close<S: BlockStore, W: Write>(
 /// Plays the steps in a session, with a commit behind every so many of their calls, and closes it.
 fn commit_and_close<S: CommitStore, W: Write>(
     mut session: Session<'_, S>,
-    steps: &[Step],
+    steps: &[Step<'_>],
     every: Option<u32>,
+    room: &mut CallRoom,
     io: &mut IoArea,
     out: &mut W,
 ) -> Result<RunEnd<S>, (S, Stop)>
@@ -107,7 +110,7 @@ fn commit_and_close<S: CommitStore, W: Write>(
     ensures size { IfOk result (λ e. S.size e.store ≡ session.entry.volume.size) }
     ensures given_size { IfErr result (λ e. S.size e.0 ≡ session.entry.volume.size) }
 {
-    let played = play_and_commit_steps(&mut session, steps, every, io, out);
+    let played = play_and_commit_steps(&mut session, steps, every, room, io, out);
     let (store, closed) = session.close();
     if closed.is_err() {
         return Err((store, Stop::Device));
@@ -122,19 +125,20 @@ fn commit_and_close<S: CommitStore, W: Write>(
     }
 }
 
-/// A session over the volume of a store, which keeps so many of its blocks in memory, and room for what its calls answer.
+/// A session over the volume of a store, which keeps so many of its blocks in memory, room for the calls of some steps, and room for what they answer.
 fn open_run<'a, S: BlockStore>(
     alloc: Global,
     store: S,
     dbd: &'a Dbd,
     psb: &'a Psb,
     kept: usize,
-) -> Result<(Session<'a, S>, IoArea), (S, RunFault)>
+    steps: &[Step<'_>],
+) -> Result<(Session<'a, S>, CallRoom, IoArea), (S, RunFault)>
     requires size { S.size store ≡ dbd.now.block_size }
     requires matches { psb.now.made_for ≡ type_names dbd.now.types }
     ensures opened { IfOk result (λ o. IsTrue (S.is_sound store) → IsOpenedOn dbd.now psb.now.pcbs (stored_in S.contents S.committed store) o.0) }
     ensures start { IfOk result (λ o. (o.0.broken ≡ false) × (o.0.pcbs ≡ psb.now.pcbs) × (o.0.database ≡ dbd.now)) }
-    ensures room { IfOk result (λ o. longest_path dbd.now.types ≤ o.1.room) }
+    ensures room { IfOk result (λ o. longest_path dbd.now.types ≤ o.2.room) }
     ensures accesses { IfOk result (λ o. (o.0.volume.is_sound ≡ S.is_sound store) × (o.0.volume.failures ≡ S.failures store)) }
     ensures kept { IfOk result (λ o. (o.0.volume.committed ≡ S.committed store) × (o.0.volume.size ≡ S.size store)) }
     ensures fault { IfErr result (λ e. IsTrue (S.is_sound store) → (turns : List Turn) → IsRunFaultOf dbd.now psb.now.pcbs (S.contents store) turns (S.contents e.0) e.1) }
@@ -146,13 +150,16 @@ fn open_run<'a, S: BlockStore>(
     let Ok(io) = IoArea::new(alloc, dbd) else {
         return Err((store, RunFault::Memory));
     };
+    let Ok(room) = CallRoom::new(alloc, steps) else {
+        return Err((store, RunFault::Memory));
+    };
     let volume = match Volume::load_keeping(alloc, store, dbd, kept) {
         Ok(volume) => volume,
         Err((store, Refused::Device)) => return Err((store, RunFault::Device)),
         Err((store, _)) => return Err((store, RunFault::Memory)),
     };
     match Session::open(alloc, volume, dbd, psb) {
-        Ok(session) => Ok((session, io)),
+        Ok(session) => Ok((session, room, io)),
         Err((volume, fault)) => Err((volume.into_store(), RunFault::Open(fault))),
     }
 }
@@ -170,7 +177,7 @@ pub fn run<S: BlockStore, W: Write>(
     dbd: &Dbd,
     psb: &Psb,
     kept: usize,
-    steps: &[Step],
+    steps: &[Step<'_>],
     out: &mut W,
 ) -> Result<RunEnd<S>, (S, RunFault)>
     requires size { S.size store ≡ dbd.now.block_size }
@@ -190,8 +197,8 @@ pub fn run<S: BlockStore, W: Write>(
     ensures size { IfOk result (λ e. S.size e.store ≡ S.size store) }
     ensures given_size { IfErr result (λ e. S.size e.0 ≡ S.size store) }
 {
-    let (session, mut io) = open_run(alloc, store, dbd, psb, kept)?;
-    match play_and_close(session, steps, &mut io, out) {
+    let (session, mut room, mut io) = open_run(alloc, store, dbd, psb, kept, steps)?;
+    match play_and_close(session, steps, &mut room, &mut io, out) {
         Ok(end) => Ok(end),
         Err((store, stop)) => Err((store, fault_of(stop))),
     }
@@ -208,7 +215,7 @@ pub fn run_with_commits<S: CommitStore, W: Write>(
     dbd: &Dbd,
     psb: &Psb,
     kept: usize,
-    steps: &[Step],
+    steps: &[Step<'_>],
     every: Option<u32>,
     out: &mut W,
 ) -> Result<RunEnd<S>, (S, RunFault)>
@@ -227,8 +234,8 @@ pub fn run_with_commits<S: CommitStore, W: Write>(
     ensures size { IfOk result (λ e. S.size e.store ≡ S.size store) }
     ensures given_size { IfErr result (λ e. S.size e.0 ≡ S.size store) }
 {
-    let (session, mut io) = open_run(alloc, store, dbd, psb, kept)?;
-    match commit_and_close(session, steps, every, &mut io, out) {
+    let (session, mut room, mut io) = open_run(alloc, store, dbd, psb, kept, steps)?;
+    match commit_and_close(session, steps, every, &mut room, &mut io, out) {
         Ok(end) => Ok(end),
         Err((store, stop)) => Err((store, fault_of(stop))),
     }

@@ -1,38 +1,23 @@
-ghost use Rattle.std.specs.Prelude.{◌≡◌, IfOk};
-ghost use Rattle.hd_deck.specs.Deck.{with_argument, with_bytes};
-
-use hd_session::Call;
-use std::alloc::AllocError;
 use std::marker::Model;
 
-/// A call of a deck, the number of its PCB, from 1, and how often it is made, from 1 to 9,999 times.
+/// A call of a deck, the number of its PCB, from 1, and how often it is made, from 1 to 9,999 times. The call stands in the deck's text, which the step
+/// borrows, until a `CallRoom` makes it.
 #[derive(Drop)]
-pub struct Step {
+pub struct Step<'t> {
     pub pcb: u8,
     pub repeat: u16,
-    pub call: Call,
+    /// How many lines with an argument belong to the call, for the room that it takes.
+    pub(crate) arguments: u32,
+    /// The deck, from the line of the call on.
+    pub(crate) text: &'t [u8],
 }
 
-impl Model for Step {
+impl<'t> Model for Step<'t> {
+    ghost use Rattle.std.specs.Str.Lines.{lines};
     ghost use Rattle.hd_deck.specs.StepText.{StepText};
+    ghost use Rattle.hd_deck.specs.CallLines.{call_at};
 
     ghost Value = { StepText };
 
-    ghost view = { λ s. record { pcb = s.pcb; repeat = s.repeat; call = s.call } };
-}
-
-impl Step {
-    /// Gives the call one segment search argument more.
-    pub(crate) fn add_argument(&mut self, ssa: Vec<u8>) -> Result<(), AllocError>
-        ensures { IfOk result (λ _. self.new ≡ with_argument ssa.items self.old) }
-    {
-        self.call.ssas.push(ssa).map_err(|_| AllocError)
-    }
-
-    /// Puts bytes behind the call's area.
-    pub(crate) fn add_bytes(&mut self, bytes: &[u8]) -> Result<(), AllocError>
-        ensures { IfOk result (λ _. self.new ≡ with_bytes bytes.now self.old) }
-    {
-        self.call.area.extend_from_slice(bytes)
-    }
+    ghost view = { λ s. record { pcb = s.pcb; repeat = s.repeat; call = call_at (lines s.text.now) } };
 }

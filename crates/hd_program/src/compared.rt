@@ -34,7 +34,7 @@ impl Expectations {
 
     /// Those in the comments of a deck: `* expect GE` is of the call before it, of a repeated one of the last time that it is made. `* expect` alone expects
     /// blanks. Of two behind one call the later counts.
-    pub fn read(alloc: Global, text: &[u8], steps: &[Step]) -> Result<Expectations, Stop> {
+    pub fn read(alloc: Global, text: &[u8], steps: &[Step<'_>]) -> Result<Expectations, Stop> {
         let mut each: Vec<Expectation> = Vec::new(alloc);
         let mut step = 0usize;
         let mut call = 0u64;
@@ -100,7 +100,7 @@ fn put_word<E: Write>(word: &Word, err: &mut E) {
 }
 
 /// How often the call of a step is made.
-fn repeat_of(steps: &[Step], step: usize) -> u64 {
+fn repeat_of(steps: &[Step<'_>], step: usize) -> u64 {
     match steps.get(step) {
         Some(step) => u64::from(step.repeat),
         None => 0,

@@ -53,35 +53,13 @@ pub fn read_program<R: Files<File = File>>(
 fn read_expectations(
     alloc: Global,
     text: &[u8],
-    steps: &[Step],
+    steps: &[Step<'_>],
     compares: bool,
 ) -> Result<Expectations, Stop> {
     if compares {
         Expectations::read(alloc, text, steps)
     } else {
         Ok(Expectations::none(alloc))
-    }
-}
-
-/// The steps that a file of a deck has, for a program of so many PCBs, and what it expects of their calls, if that is to be compared.
-fn read_steps<R: Files<File = File>>(
-    rt: &R,
-    alloc: Global,
-    pcbs: u8,
-    name: &str,
-    compares: bool,
-) -> Result<(Vec<Step>, Expectations, Identity), Stop>
-    requires { 0 < pcbs }
-    ensures fit { IfOk result (λ s. All (StepFits pcbs) s.0.items) }
-    ensures few { IfOk result (λ s. length s.0.items ≤ 2 ^ 30) }
-{
-    let (text, identity) = read_file(rt, alloc, name, Named::Deck)?;
-    match read_deck(alloc, &text, pcbs) {
-        Ok(steps) => {
-            let expectations = read_expectations(alloc, &text, &steps, compares)?;
-            Ok((steps, expectations, identity))
-        }
-        Err(fault) => Err(Stop::deck(fault, text, Named::Deck)),
     }
 }
 
@@ -111,7 +89,7 @@ fn play_store<D: Disk, L: Ledger, P: Progress, O: Write>(
     alloc: Global,
     dbd: &Dbd,
     psb: &Psb,
-    steps: &[Step],
+    steps: &[Step<'_>],
     every: Option<u32>,
     store: Journaled<D, L>,
     cache: u32,
@@ -136,7 +114,7 @@ fn play_held<D: Disk, L: Ledger, P: Progress, O: Write + Drop>(
     alloc: Global,
     dbd: &Dbd,
     psb: &Psb,
-    steps: &[Step],
+    steps: &[Step<'_>],
     every: Option<u32>,
     store: Journaled<D, L>,
     cache: u32,
@@ -173,7 +151,7 @@ fn play_disk<D: Disk, L: Ledger, P: Progress, O: Write, E: Write>(
     alloc: Global,
     dbd: &Dbd,
     psb: &Psb,
-    steps: &[Step],
+    steps: &[Step<'_>],
     every: Option<u32>,
     expectations: Expectations,
     disk: D,
@@ -263,7 +241,7 @@ fn play_over<L: Ledger, R: Files<File = File>, P: Progress, O: Write, E: Write>(
     alloc: Global,
     dbd: &Dbd,
     psb: &Psb,
-    steps: &[Step],
+    steps: &[Step<'_>],
     every: Option<u32>,
     expectations: Expectations,
     files: VolumeFiles<'_, R>,
@@ -313,7 +291,7 @@ fn play_own<R: Files<File = File>, P: Progress, O: Write, E: Write>(
     alloc: Global,
     dbd: &Dbd,
     psb: &Psb,
-    steps: &[Step],
+    steps: &[Step<'_>],
     every: Option<u32>,
     expectations: Expectations,
     files: VolumeFiles<'_, R>,
@@ -369,8 +347,17 @@ where
     let (dbd, source) = read_database(rt, alloc, dbd)?;
     let (psb, program) = read_program(rt, alloc, &dbd, psb)?;
     let pcbs = psb.pcbs().len() as u8;
-    let (steps, expectations, text) = read_steps(rt, alloc, pcbs, deck, compares)?;
-    let volume = open_volume(rt, volume, &[source, program, text])?;
+    let (text, identity) = read_file(rt, alloc, deck, Named::Deck)?;
+    let read = read_deck(alloc, &text, pcbs);
+    let steps = match read {
+        Ok(steps) => steps,
+        Err(fault) => {
+            drop(read);
+            return Err(Stop::deck(fault, text, Named::Deck));
+        }
+    };
+    let expectations = read_expectations(alloc, &text, &steps, compares)?;
+    let volume = open_volume(rt, volume, &[source, program, identity])?;
     let cache = cache.unwrap_or(blocks_for_changes(&dbd));
     let (files, left) = open_files(alloc, volume, syncs)?;
     let played = play_own(

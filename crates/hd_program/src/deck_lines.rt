@@ -9,7 +9,7 @@ use std::alloc::Global;
 use std::io::Write;
 
 /// How many calls a deck has.
-fn count_calls(steps: &[Step]) -> u64 {
+fn count_calls(steps: &[Step<'_>]) -> u64 {
     let mut calls = 0u64;
     for step in steps {
         calls = calls.saturating_add(u64::from(step.repeat));
@@ -21,7 +21,7 @@ fn count_calls(steps: &[Step]) -> u64 {
 pub fn lines_into<'p, O: Write, P: Progress>(
     alloc: Global,
     out: &'p mut O,
-    steps: &[Step],
+    steps: &[Step<'_>],
     progress: &'p P,
 ) -> Result<Answers<'p, Pieces<&'p mut O>, P>, Stop> {
     match Pieces::new(alloc, out) {
@@ -34,7 +34,7 @@ pub fn lines_into<'p, O: Write, P: Progress>(
 pub fn held_lines<'p, O: Write, P: Progress>(
     alloc: Global,
     out: &'p mut O,
-    steps: &[Step],
+    steps: &[Step<'_>],
     expectations: Expectations,
     progress: &'p P,
 ) -> Result<(Held<Compared<Answers<'p, Pieces<&'p mut O>, P>>>, Vec<u8>), Stop> {

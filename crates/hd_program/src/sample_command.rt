@@ -29,19 +29,13 @@ fn read_sample(alloc: Global) -> Result<(Dbd, Psb), Stop>
     }
 }
 
-/// The steps of the deck that a reader holds, for a program of so many PCBs.
-fn read_input<I: Read>(alloc: Global, pcbs: u8, input: &mut I) -> Result<Vec<Step>, Stop>
-    requires { 0 < pcbs }
-    ensures fit { IfOk result (λ s. All (StepFits pcbs) s.items) }
-    ensures few { IfOk result (λ s. length s.items ≤ 2 ^ 30) }
+/// The text that a reader holds.
+fn read_input<I: Read>(alloc: Global, input: &mut I) -> Result<Vec<u8>, Stop>
+    ensures { IfOk result (λ t. length t.items ≤ 2 ^ 30) }
 {
-    let text = match read_whole(alloc, input) {
-        Ok(text) => text,
-        Err(error) => return Err(Stop::file(Named::Input, error)),
-    };
-    match read_deck(alloc, &text, pcbs) {
-        Ok(steps) => Ok(steps),
-        Err(fault) => Err(Stop::deck(fault, text, Named::Input)),
+    match read_whole(alloc, input) {
+        Ok(text) => Ok(text),
+        Err(error) => Err(Stop::file(Named::Input, error)),
     }
 }
 
@@ -50,7 +44,7 @@ fn play_over_blocks<S: BlockStore + Drop, O: Write, E: Write>(
     alloc: Global,
     dbd: &Dbd,
     psb: &Psb,
-    steps: &[Step],
+    steps: &[Step<'_>],
     store: S,
     out: &mut O,
     err: &mut E,
@@ -72,7 +66,15 @@ pub fn play_sample<I: Read, O: Write, E: Write>(
     err: &mut E,
 ) -> Result<Ended, Stop> {
     let (dbd, psb) = read_sample(alloc)?;
-    let steps = read_input(alloc, psb.pcbs().len() as u8, input)?;
+    let text = read_input(alloc, input)?;
+    let read = read_deck(alloc, &text, psb.pcbs().len() as u8);
+    let steps = match read {
+        Ok(steps) => steps,
+        Err(fault) => {
+            drop(read);
+            return Err(Stop::deck(fault, text, Named::Input));
+        }
+    };
     let store = sample::volume(alloc, &dbd)?;
     let mut lines = lines_into(alloc, out, &steps, &Silent)?;
     Ok(play_over_blocks(alloc, &dbd, &psb, &steps, store, &mut lines, err))

@@ -93,7 +93,7 @@ fn judge<S: BlockStore + Drop>(
 }
 
 /// The steps of a deck for a program; `None` where it is refused, or where there is no memory for them.
-pub fn steps_of(alloc: Global, deck: &[u8], psb: &Psb) -> Option<Vec<Step>>
+pub fn steps_of<'t>(alloc: Global, deck: &'t [u8], psb: &Psb) -> Option<Vec<Step<'t>>>
     ensures fit { IfSome result (λ steps. All (StepFits (length psb.now.pcbs)) steps.items) }
     ensures few { IfSome result (λ steps. length steps.items ≤ 4000) }
 {

@@ -8,8 +8,8 @@ use crate::acts::End;
 use crate::streams::Page;
 use hd_commands::status_of_calls;
 use hd_dbd::{Dbd, Psb, Refused};
-use hd_deck::{Step, print_answer, print_refusal};
-use hd_session::{IoArea, OpenFault, Session};
+use hd_deck::{CallRoom, Step, print_answer, print_refusal};
+use hd_session::{Call, IoArea, OpenFault, Session};
 use hd_stores::BlockStore;
 use hd_volume::Volume;
 use std::alloc::Global;
@@ -18,7 +18,7 @@ use std::alloc::Global;
 /// something in the I/O area.
 fn make<S: BlockStore>(
     session: &mut Session<'_, S>,
-    step: &Step,
+    call: &Call,
     number: u64,
     io: &mut IoArea,
     out: &mut Page<'_>,
@@ -28,8 +28,8 @@ fn make<S: BlockStore>(
     ensures same { (session.new.pcbs ≡ session.old.pcbs) × (session.new.database ≡ session.old.database) }
     ensures room { io.new.room ≡ io.old.room }
 {
-    let func = &step.call.func;
-    match session.call(1, &step.call, io) {
+    let func = &call.func;
+    match session.call(1, call, io) {
         Ok(answer) => {
             print_answer(out, number, 1, func, &answer, io).ok()?;
             Some(Ok(()))
@@ -50,8 +50,9 @@ fn make<S: BlockStore>(
 /// answers `Broken`.
 fn make_all<S: BlockStore>(
     session: &mut Session<'_, S>,
-    steps: &[Step],
+    steps: &[Step<'_>],
     again: bool,
+    room: &mut CallRoom,
     io: &mut IoArea,
     out: &mut Page<'_>,
 ) -> Option<End>
@@ -63,13 +64,14 @@ fn make_all<S: BlockStore>(
     let mut number = 0u64;
     for step in steps {
         number = number.saturating_add(1);
-        let mut answered = make(session, step, number, io, out)?;
+        room.make(step).ok()?;
+        let mut answered = make(session, room.call(), number, io, out)?;
         if answered == Err(Refused::Memory) {
             memory = memory.saturating_add(1);
             if !again {
                 return Some(End::Status(status_of_calls(memory), true));
             }
-            answered = make(session, step, number, io, out)?;
+            answered = make(session, room.call(), number, io, out)?;
         }
         let wanted = if is_broken {
             Err(Refused::Broken)
@@ -106,7 +108,7 @@ pub fn call_in_session<S: BlockStore + Drop>(
     alloc: Global,
     dbd: &Dbd,
     psb: &Psb,
-    steps: &[Step],
+    steps: &[Step<'_>],
     again: bool,
     kept: usize,
     store: S,
@@ -116,6 +118,7 @@ pub fn call_in_session<S: BlockStore + Drop>(
     requires matches { psb.now.made_for ≡ type_names dbd.now.types }
 {
     let mut io = IoArea::new(alloc, dbd).ok()?;
+    let mut room = CallRoom::new(alloc, steps).ok()?;
     let _count = psb.pcbs().len();
     let volume = match Volume::load_keeping(alloc, store, dbd, kept) {
         Ok(volume) => volume,
@@ -127,7 +130,7 @@ pub fn call_in_session<S: BlockStore + Drop>(
         Err((volume, OpenFault::Device)) => return Some((volume.into_store(), End::Device)),
         Err(_) => return None,
     };
-    let end = make_all(&mut session, steps, again, &mut io, out)?;
+    let end = make_all(&mut session, steps, again, &mut room, &mut io, out)?;
     let (store, closed) = session.close();
     Some((store, close_of(end, closed)))
 }

@@ -1,15 +1,27 @@
-use Rattle.std.proofs.Common.{subst}
+use Rattle.std.proofs.Common.{◌≡◌, ◌∙◌, subst}
 use Rattle.std.specs.Prelude.{IfOk, IfErr}
+use Rattle.hd_session.proofs.Turns.{whole_none}
 use Rattle.hd_deck.specs.StepText.{StepText}
 use Rattle.hd_deck.specs.Runs.{step_turns}
 use Rattle.hd_deck.specs.Commits.{requests_from, PlaysRequests, DoesUntil}
+use Rattle.hd_deck.proofs.Calls.{if_ok, step_made}
+use Rattle.hd_deck.proofs.Requests.{none_asked}
 use Rattle.hd_deck.proofs.commits.play_step_and_commit.Goals as goal
+
+pub returns-then-is_err-clause-until : goal.returns-then-is_err-clause-until
+returns-then-is_err-clause-until g c = none_asked c.args.session.now (requests_from c.args.every c.args.number (step_turns c.args.step.now)) c.requires.whole
+
+pub returns-then-is_err-clause-stops : goal.returns-then-is_err-clause-stops
+returns-then-is_err-clause-stops g c = whole_none c.args.session.now c.requires.whole
 
 pub returns-clause-plays : goal.returns-clause-plays
 returns-clause-plays g c =
+    let call : c.call.result.now ≡ c.args.step.now.call = c.call.ensures ∙ if_ok c.make.result c.if-is_err.ensures.value c.make.ensures in
     subst (λ (r : StepText). IfOk c.play_calls_and_commit.result (λ lacking. PlaysRequests c.args.session.now (requests_from c.args.every c.args.number (step_turns r)) c.args.number (g.W.Write.contents c.args.out.now)
-    (g.W.Write.contents c.play_calls_and_commit.new.out) lacking c.play_calls_and_commit.new.session)) c.step.view_is c.play_calls_and_commit.ensures.plays
+    (g.W.Write.contents c.play_calls_and_commit.new.out) lacking c.play_calls_and_commit.new.session)) (step_made c.args.step.now _ c.call.result.now c.step.view_is call) c.play_calls_and_commit.ensures.plays
 
 pub returns-clause-until : goal.returns-clause-until
 returns-clause-until g c =
-    subst (λ (r : StepText). IfErr c.play_calls_and_commit.result (λ e. DoesUntil c.args.session.now (requests_from c.args.every c.args.number (step_turns r)) e c.play_calls_and_commit.new.session)) c.step.view_is c.play_calls_and_commit.ensures.until
+    let call : c.call.result.now ≡ c.args.step.now.call = c.call.ensures ∙ if_ok c.make.result c.if-is_err.ensures.value c.make.ensures in
+    subst (λ (r : StepText). IfErr c.play_calls_and_commit.result (λ e. DoesUntil c.args.session.now (requests_from c.args.every c.args.number (step_turns r)) e c.play_calls_and_commit.new.session))
+    (step_made c.args.step.now _ c.call.result.now c.step.view_is call) c.play_calls_and_commit.ensures.until

@@ -1,12 +1,13 @@
-use Rattle.std.proofs.Common.{◌≡◌, ◌+◌, ◌<◌, ◌≤◌, length, All}
+use Rattle.std.proofs.Common.{◌+◌, ◌<◌, ◌≤◌, length, All}
 use Rattle.std.specs.Str.Lines.{lines}
 use Rattle.hd_deck.specs.StepText.{StepFits}
-use Rattle.hd_deck.specs.Deck.{deck, read_from}
+use Rattle.hd_deck.specs.Deck.{deck}
+use Rattle.hd_deck.proofs.Decks.{IsAhead}
 use Rattle.hd_deck.proofs.deck.read_deck.Given as goal
 
 abbrev pub invariant-lines : goal.invariant-lines
 invariant-lines l = record {
-  so_far : read_from l.pcbs l.number l.reader (lines l.rest) ≡ deck l.pcbs l.bytes;
+  so_far : IsAhead l.pcbs l.number (lines l.rest) (deck l.pcbs l.bytes) l.reader;
   fit : All (StepFits l.pcbs) l.reader.steps;
   some_pcb : 0 < l.reader.pcb;
   known_pcb : l.reader.pcb ≤ l.pcbs;
