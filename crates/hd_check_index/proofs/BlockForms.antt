@@ -28,7 +28,7 @@ use Rattle.hd_check_index.proofs.NotedTables.{among, index-of, before-of}
 pub level-own : (v : VolumeState) (bs : List NotedBlock) (b : NotedBlock) → AreIndexBlocks v bs → IsBlockOf b bs → level_in v b.number ≡ Some b.level
 level-own v bs b h i = (let t = h.there b i in level-of v b.number t.0 ∙ ap (λ (x : NotedBlock). Some x.level) (sym t.1))
 
-one-level : (m l : ℕ) → Some m ≡ Some l → m ≡ l
+pub one-level : (m l : ℕ) → Some m ≡ Some l → m ≡ l
 one-level m l e = cc
 
 pub level-right : (v : VolumeState) (bs : List NotedBlock) (n level i : ℕ) → AreIndexBlocks v bs → i < length bs → (noted_at bs i).number ≡ n → nat_eq (noted_at bs i).level level ≡ true → level_in v n ≡ Some level

@@ -260,7 +260,7 @@ module _ (k : ℕ) (v : VolumeState) (f : AreFormsRight k v) (rows : List Standi
   standing-kind i l = (level-kind v (standing_at rows i).number (standing_at rows i).level (stands-at i l).on_level).0
 
   -- what is wrong at an index is a fault
-  wrong-fault : (i : ℕ) → i < length rows → IsWrongAt v rows i → IsWrongNext k v ((standing_at rows i).number * v.size) 0
+  pub wrong-fault : (i : ℕ) → i < length rows → IsWrongAt v rows i → IsWrongNext k v ((standing_at rows i).number * v.size) 0
   wrong-fault i l wrong =
       let s = stands-at i l in
       let height = s.height in
@@ -277,7 +277,7 @@ module _ (k : ℕ) (v : VolumeState) (f : AreFormsRight k v) (rows : List Standi
       )
 
   -- and each fault is wrong at an index
-  fault-wrong : (address other : ℕ) → IsWrongNext k v address other → (i : ℕ) × (i < length rows) × IsWrongAt v rows i × (address ≡ (standing_at rows i).number * v.size)
+  pub fault-wrong : (address other : ℕ) → IsWrongNext k v address other → (i : ℕ) × (i < length rows) × IsWrongAt v rows i × (address ≡ (standing_at rows i).number * v.size)
   fault-wrong address other t =
       let l : ℕ = t.0 in
       let n : ℕ = t.1 in

@@ -112,7 +112,7 @@ wrong-form-of k v n kind wrong =
     ]
 
 -- a right block's form is not wrong
-form-not-wrong : (k : ℕ) (v : VolumeState) (a o : ℕ) (w : IsWrongForm k v a o) → IsRightIndexBlock k v w.0 → ⊥
+pub form-not-wrong : (k : ℕ) (v : VolumeState) (a o : ℕ) (w : IsWrongForm k v a o) → IsRightIndexBlock k v w.0 → ⊥
 form-not-wrong k v a o w r = elim w.4 [
   | inl high ↦ high r.level
   | inr (inl many) ↦ (let few = r.count in omega arith)
@@ -120,7 +120,7 @@ form-not-wrong k v a o w r = elim w.4 [
 ]
 
 -- nor are a right top and height
-top-not-wrong : (v : VolumeState) (a o : ℕ) → IsWrongTop v a o → IsTopRight v → ⊥
+pub top-not-wrong : (v : VolumeState) (a o : ℕ) → IsWrongTop v a o → IsTopRight v → ⊥
 top-not-wrong v a o w r = elim r.height [
   | inl z ↦ elim w.2 [
     | inl c ↦ c.1 z.1

@@ -41,7 +41,7 @@ late-lines P a b c d n e f g NoEntry h = g
 
 -- ---- of a chain
 
-of-chain : (v : VolumeState) (A B : Type 0) → (header_of v.image).version ≡ 1 → ByVersion v A B → A
+pub of-chain : (v : VolumeState) (A B : Type 0) → (header_of v.image).version ≡ 1 → ByVersion v A B → A
 of-chain v A B one (inl t) = t.1
 of-chain v A B one (inr t) = absurd (t.0 one)
 
@@ -121,7 +121,7 @@ stands-13 d v k a o is s =
 
 -- ---- of an index set
 
-of-set : (v : VolumeState) (A B : Type 0) → (header_of v.image).version ≢ 1 → ByVersion v A B → B
+pub of-set : (v : VolumeState) (A B : Type 0) → (header_of v.image).version ≢ 1 → ByVersion v A B → B
 of-set v A B later (inl t) = absurd (later t.0)
 of-set v A B later (inr t) = t.1
 

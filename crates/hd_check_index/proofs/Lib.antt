@@ -21,3 +21,11 @@ pub mod EntrySteps
 pub mod NamedEntries
 pub mod Sequences
 pub mod OrderSteps
+pub mod PassedBlocks
+pub mod IndexLines
+pub mod ChainLists
+pub mod SetLists
+pub mod InOrder
+pub mod ChainOrders
+pub mod RowLists
+pub mod NameLists

@@ -122,17 +122,21 @@ named-more k v bs i named more h is = record {
 }
 
 -- an earlier number is less than a later one
-above-at : (a : ℕ) (ns : List ℕ) (j : ℕ) → NumbersAscend a ns → j < length ns → a < slice_index ns j
+pub above-at : (a : ℕ) (ns : List ℕ) (j : ℕ) → NumbersAscend a ns → j < length ns → a < slice_index ns j
 above-at a [] j h l = absurd (omega arith)
 above-at a (n ∷ ns) zero h l = h.0
 above-at a (n ∷ ns) (suc j) h l = (let r = above-at n ns j h.1 (omega arith) in let f = h.0 in omega arith)
 
-in-order : (a : ℕ) (ns : List ℕ) (i j : ℕ) → NumbersAscend a ns → i < j → j < length ns → slice_index ns i < slice_index ns j
+pub in-order : (a : ℕ) (ns : List ℕ) (i j : ℕ) → NumbersAscend a ns → i < j → j < length ns → slice_index ns i < slice_index ns j
 in-order a [] i j h less l = absurd (omega arith)
 in-order a (n ∷ ns) zero zero h less l = absurd (omega arith)
 in-order a (n ∷ ns) zero (suc j) h less l = above-at n ns j h.1 (omega arith)
 in-order a (n ∷ ns) (suc i) zero h less l = absurd (omega arith)
 in-order a (n ∷ ns) (suc i) (suc j) h less l = in-order n ns i j h.1 (omega arith) (omega arith)
+
+-- where all entries pass a test no first one fails it
+pub nothing-found : (test : Entry → Bool) (es : List Entry) (x : ℕ) → list_all test es ≡ true → option_map (λ (e : Entry). e.address) (find (λ e. not (test e)) es) ≡ Some x → ⊥
+nothing-found test es x right some = (let e : None ≡ Some x = ap (λ (q : Option Entry). option_map (λ (y : Entry). y.address) q) (sym (none-failing test es right)) ∙ some in cc)
 
 module _ (d : Database) (v : VolumeState) (bs : List ℕ) (h : IsSequence (root_key_length d.types) v bs) where
   -- a block of the table is one that bears entries of the index
@@ -143,7 +147,7 @@ module _ (d : Database) (v : VolumeState) (bs : List ℕ) (h : IsSequence (root_
   table-entries j l = h.bear (slice_index bs j) (at-among bs (slice_index bs j) j l refl)
 
   -- and each such block is one of the table
-  chain-table : (n : ℕ) → IsAmong n (sequence_blocks (root_key_length d.types) v) → (j : ℕ) × (j < length bs) × (slice_index bs j ≡ n)
+  pub chain-table : (n : ℕ) → IsAmong n (sequence_blocks (root_key_length d.types) v) → (j : ℕ) × (j < length bs) × (slice_index bs j ≡ n)
   chain-table n i = among-at bs n (h.all n i)
 
   -- what holds of the entries of all blocks of the table holds of all entries
@@ -195,9 +199,6 @@ module _ (d : Database) (v : VolumeState) (bs : List ℕ) (h : IsSequence (root_
             let right = subst (λ (x : ℕ). list_all (λ (e : Entry). names_a_root d (links_of d.types v) e) (entries_in (root_key_length d.types) (block_at v x)) ≡ true) own (before j.0 earlier) in
             absurd (nothing-found (λ (e : Entry). names_a_root d (links_of d.types v) e) (entries_in (root_key_length d.types) (block_at v m)) o right t.2))
       ]))
-    where
-      nothing-found : (test : Entry → Bool) (es : List Entry) (x : ℕ) → list_all test es ≡ true → option_map (λ (e : Entry). e.address) (find (λ e. not (test e)) es) ≡ Some x → ⊥
-      nothing-found test es x right some = (let e : None ≡ Some x = ap (λ (q : Option Entry). option_map (λ (y : Entry). y.address) q) (sym (none-failing test es right)) ∙ some in cc)
 
 -- ---- one image
 

@@ -11,6 +11,8 @@ use Rattle.hd_volume.specs.Entries.{Entry, entries_in, entries_of, entry_blocks,
 use Rattle.hd_volume.specs.Indexes.{root_key_length, key_less, keys_ascend}
 use Rattle.hd_volume.proofs.IndexLemmas.{entries-append}
 use Rattle.hd_image.specs.IndexFaults.{last_entry, first_not_above}
+use Rattle.hd_image.specs.Standing.{Stands, phase_of}
+use Rattle.hd_image.specs.declared.line.Line.{Line}
 use Rattle.hd_image.specs.declared.line.Line.TheVariants.{EntryOutOfOrder}
 use Rattle.hd_check_blocks.specs.declared.fault.Fault.{Fault}
 use Rattle.hd_check_blocks.specs.Phases.{IsLeastOf}
@@ -219,6 +221,31 @@ short-is : (before : List ℕ) (n : ℕ) (behind : List ℕ) → length before <
 short-is [] n behind = omega arith
 short-is (b ∷ bs) n behind = (let r = short-is bs n behind in omega arith)
 
+module _ (d : Database) (v : VolumeState) (ns : List ℕ) (is : ns ≡ entry_blocks v) (one : (header_of v.image).version ≡ 1) where
+  -- a block of the chain with an entry out of order is a fault
+  pub order-stands : (j o : ℕ) → j < length ns → out-of-order (root_key_length d.types) v ns j ≡ Some o → Stands d v EntryOutOfOrder (slice_index ns j * v.size) o
+  order-stands j o within wrong =
+      let n : ℕ = slice_index ns j in
+      let split : entry_blocks v ≡ take j ns ++ (n ∷ drop (j + 1) ns) = sym is ∙ sym (take-append-drop j ns) ∙ ap (λ (ms : List ℕ). take j ns ++ ms) (drop_more ns j 0 within) in
+      inl (one, (n, take j ns, drop (j + 1) ns, split, wrong, refl))
+
+  -- and each fault of the phase is that of such a block
+  pub stands-order : (l : Line) (a o : ℕ) → phase_of l ≡ 11 → Stands d v l a o → (j : ℕ) × (j < length ns) × (out-of-order (root_key_length d.types) v ns j ≡ Some o) × (a ≡ slice_index ns j * v.size)
+  stands-order l a o p s =
+      let k : ℕ = root_key_length d.types in
+      let t = (stands-11 d v l a o one p s).0 in
+      let m : ℕ = t.0 in
+      let before : List ℕ = t.1 in
+      let whole : ns ≡ before ++ m ∷ t.2 = is ∙ t.3 in
+      let i : ℕ = length before in
+      let short : i < length ns = subst (λ (ms : List ℕ). i < length ms) (sym whole) (short-is before m t.2) in
+      let front : take i ns ≡ before = ap (take i) whole ∙ front-is before m t.2 in
+      let own : slice_index ns i ≡ m = ap (λ (ms : List ℕ). slice_index ms i) whole ∙ at-is before m t.2 in
+      let wrong : out-of-order k v ns i ≡ Some o =
+      ap (λ (ms : List ℕ). address-of (first_not_above (last_entry None (entries_of k v ms)) (entries_in k (block_at v (slice_index ns i))))) front
+      ∙ ap (λ (y : ℕ). address-of (first_not_above (last_entry None (entries_of k v before)) (entries_in k (block_at v y)))) own ∙ t.4 in
+      (i, short, wrong, t.5 ∙ ap (λ (y : ℕ). y * v.size) (sym own))
+
 module _ (d : Database) (v : VolumeState) (ns : List ℕ) (is : ns ≡ entry_blocks v) (least : Option Fault) (h : IsLeastBefore (root_key_length d.types) v ns (length ns) least) where
   -- where no fault was found the keys ascend
   pub none-out-of-order : IfNone least (keys_ascend (entries (root_key_length d.types) v) ≡ true)
@@ -248,26 +275,13 @@ module _ (d : Database) (v : VolumeState) (ns : List ℕ) (is : ns ≡ entry_blo
           let j : ℕ = q.0.0 in
           let o : ℕ = q.0.1 in
           let n : ℕ = slice_index ns j in
-          let split : entry_blocks v ≡ take j ns ++ (n ∷ drop (j + 1) ns) = sym is ∙ sym (take-append-drop j ns) ∙ ap (λ (ms : List ℕ). take j ns ++ ms) (drop_more ns j 0 q.0.2) in
           let address : f.address ≡ n * v.size = ap (λ (x : Fault). x.address) q.0.4 in
           subst (IsLeastOf d v 11) (sym q.0.4)
           (least-by d v 11 (record { line = EntryOutOfOrder; address = n * v.size; other = o }) refl
-          (inl (one, (n, take j ns, drop (j + 1) ns, split, q.0.3, refl)))
+          (order-stands d v ns is one j o q.0.2 q.0.3)
           (λ l a x p s.
-          (let both = stands-11 d v l a x one p s in
-          let t = both.0 in
-          let number = both.1 in
-          let m : ℕ = t.0 in
-          let before : List ℕ = t.1 in
-          let whole : ns ≡ before ++ m ∷ t.2 = is ∙ t.3 in
-          let i : ℕ = length before in
-          let short : i < length ns = subst (λ (ms : List ℕ). i < length ms) (sym whole) (short-is before m t.2) in
-          let front : take i ns ≡ before = ap (take i) whole ∙ front-is before m t.2 in
-          let own : slice_index ns i ≡ m = ap (λ (ms : List ℕ). slice_index ms i) whole ∙ at-is before m t.2 in
-          let wrong : out-of-order (root_key_length d.types) v ns i ≡ Some x =
-          ap (λ (ms : List ℕ). address-of (first_not_above (last_entry None (entries_of (root_key_length d.types) v ms)) (entries_in (root_key_length d.types) (block_at v (slice_index ns i))))) front
-          ∙ ap (λ (y : ℕ). address-of (first_not_above (last_entry None (entries_of (root_key_length d.types) v before)) (entries_in (root_key_length d.types) (block_at v y)))) own ∙ t.4 in
-          let low : f.address ≤ slice_index ns i * v.size = q.1 i x short wrong in
-          let same : slice_index ns i * v.size ≡ m * v.size = ap (λ (y : ℕ). y * v.size) own in
-          let at = t.5 in
+          (let number = (stands-11 d v l a x one p s).1 in
+          let w = stands-order d v ns is one l a x p s in
+          let low : f.address ≤ slice_index ns w.0 * v.size = q.1 w.0 x w.1 w.2 in
+          let at = w.3 in
           (omega arith, λ e. omega arith))))

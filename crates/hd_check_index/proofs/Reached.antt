@@ -120,13 +120,19 @@ module _ (k : ℕ) (v : VolumeState) (bs : List NotedBlock) (table : AreIndexBlo
   numbers = ap numbers_of is ∙ numbers-down (index_blocks k v) (top_level v) (top_blocks v)
 
   -- a block that is not reached has an index, and no mark
-  index-unreached : (address other : ℕ) → IsUnreachedBlock k v address other → (i : ℕ) × (i < length bs) × (mark_at marks i ≡ true → ⊥) × (address ≡ (noted_at bs i).number * v.size)
+  pub index-unreached : (address other : ℕ) → IsUnreachedBlock k v address other → (i : ℕ) × (i < length bs) × (mark_at marks i ≡ true → ⊥) × (address ≡ (noted_at bs i).number * v.size)
   index-unreached address other t =
       let i = index-of (noted v t.0) bs (table.all t.0 t.1) in
       let own : (noted_at bs i.0).number ≡ t.0 = ap (λ (b : NotedBlock). b.number) i.2 in
       let D : List ℕ → Type 0 = λ ns. IsAmong t.0 ns in
       let E : ℕ → Type 0 = λ n. IsAmong n (numbers_of rows) in
       (i.0, i.1, λ m. t.2 (subst D numbers (subst E own (h.passed i.0 i.1 m))), t.3 ∙ ap (λ (n : ℕ). n * v.size) (sym own))
+
+  -- a block that has no mark is not reached
+  pub unmarked-stands : (i : ℕ) → i < length bs → mark_at marks i ≡ false → IsUnreachedBlock k v ((noted_at bs i).number * v.size) 0
+  unmarked-stands i within none =
+      let D : List ℕ → Type 0 = λ ns. IsAmong (noted_at bs i).number ns in
+      ((noted_at bs i).number, (table.there (noted_at bs i) (among bs i within)).0, (λ a. false≢true (sym none ∙ h.marked i within (subst D (sym numbers) a))), refl, refl)
 
   -- the first block that has no mark is the first that is not reached
   pub unreached-found : (found : Option ℕ) → IfNone found (AreMarkedBefore (length bs) marks)
@@ -136,12 +142,10 @@ module _ (k : ℕ) (v : VolumeState) (bs : List NotedBlock) (table : AreIndexBlo
       let i : ℕ = some.0 in
       let within : i < length bs = some.1 in
       let own : n ≡ (noted_at bs i).number = some.2 in
-      let kind = (table.there (noted_at bs i) (among bs i within)).0 in
-      let D : List ℕ → Type 0 = λ ns. IsAmong (noted_at bs i).number ns in
       let F : ℕ → Type 0 = λ m. IsFirst v (IsUnreachedBlock k v) m 0 in (
         tt,
         subst F (sym own) (record {
-          here = ((noted_at bs i).number, kind, (λ a. false≢true (sym some.3 ∙ h.marked i within (subst D (sym numbers) a))), refl, refl);
+          here = unmarked-stands i within some.3;
           least = λ a o t.
               (let j = index-unreached a o t in
               let at : a ≡ (noted_at bs j.0).number * v.size = j.3 in

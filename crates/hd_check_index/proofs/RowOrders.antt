@@ -42,6 +42,32 @@ pub least-found : (n : ℕ) (found : Option ℕ) → IsLeastOf (λ m o. (m ≡ n
 least-found n None = λ m o s. (let none = s.1 in cc)
 least-found n (Some x) = ((refl, refl), λ m o s. (let is = s.0 in omega arith))
 
+-- ---- what is known of where something stands, which one block or one row more adds to
+
+abbrev pub Known : Type 1
+Known = (ℕ → ℕ → Type 0) → Type 0
+
+-- with what was found in block n the first leads to the second
+abbrev pub Notes : Known → ℕ → Option ℕ → Known → Type 1
+Notes K n found L =
+    (P R : ℕ → ℕ → Type 0) → ((m a : ℕ) → P m a ⊎ ((m ≡ n) × (found ≡ Some a)) → R m a) → ((m a : ℕ) → R m a → P m a ⊎ ((m ≡ n) × (found ≡ Some a))) → K P → L R
+
+-- the first two lead to the third
+abbrev pub Joins : Known → Known → Known → Type 1
+Joins K F L = (P Q R : ℕ → ℕ → Type 0) → ((n o : ℕ) → P n o ⊎ Q n o → R n o) → ((n o : ℕ) → R n o → P n o ⊎ Q n o) → K P → F Q → L R
+
+-- of the least one that was found in a block is the lesser of two
+pub least-notes : (n : ℕ) (found : Option ℕ) (least here least2 : Option (ℕ × ℕ)) → here ≡ option_map (λ (o : ℕ). (n, o)) found → least2 ≡ lesser least here → Notes (λ P. IsLeastOf P least) n found (λ P. IsLeastOf P least2)
+least-notes n found least here least2 own is P R to from h =
+    let all : least2 ≡ lesser least (option_map (λ (o : ℕ). (n, o)) found) = is ∙ ap (lesser least) own in
+    subst (IsLeastOf R) (sym all)
+    (least-as (λ m a. P m a ⊎ ((m ≡ n) × (found ≡ Some a))) R (lesser least (option_map (λ (o : ℕ). (n, o)) found)) to from
+    (least-both P (λ m a. (m ≡ n) × (found ≡ Some a)) least (option_map (λ (o : ℕ). (n, o)) found) h (least-found n found)))
+
+-- and so is one that was found in a row
+pub least-joins : (least found least2 : Option (ℕ × ℕ)) → least2 ≡ lesser least found → Joins (λ P. IsLeastOf P least) (λ P. IsLeastOf P found) (λ P. IsLeastOf P least2)
+least-joins least found least2 is P Q R to from h g = subst (IsLeastOf R) (sym is) (least-as (λ n o. P n o ⊎ Q n o) R (lesser least found) to from (least-both P Q least found h g))
+
 -- ---- the blocks of a row
 
 pub row-length : (l : ℕ) (ns : List ℕ) → length (row_of l ns) ≡ length ns
@@ -54,17 +80,19 @@ row-at l (n ∷ ns) zero d less = refl
 row-at l (n ∷ ns) (suc i) d less = row-at l ns i d (omega arith)
 
 -- The first blocks of a row were judged.
-pub record IsSeen (k : ℕ) (c : IndexBlocks) (l : ℕ) (ns : List ℕ) (i : ℕ) (below own : List Extent) (left : Left) (place : ℕ) (least : Option (ℕ × ℕ)) : Type 0 where
+pub record IsSeen (k : ℕ) (c : IndexBlocks) (l : ℕ) (ns : List ℕ) (i : ℕ) (below own : List Extent) (left : Left) (place : ℕ) (K : Known) : Type 0 where
   -- the key of their last entry is kept
   pub left_is : IsLeft k left (last_entry None (across c (take i ns)))
   -- the extents from a place on are those below the others
   pub rest : AreBelow k c l (across c (drop i ns)) (drop place below)
   pub own_is : AreExtents k c l (take i ns) own
-  pub least_is : IsLeastOf (IsWrongUpTo c l ns i) least
+  -- what is known of them
+  pub known : K (IsWrongUpTo c l ns i)
 
 -- of none
-pub seen-none : (k : ℕ) (c : IndexBlocks) (l : ℕ) (ns : List ℕ) (below : List Extent) (left : Left) → left.is_some ≡ false → AreBelow k c l (across c ns) below → IsSeen k c l ns 0 below [] left 0 None
-seen-none k c l ns below left none h = record { left_is = none; rest = h; own_is = tt; least_is = λ n o s. (let less = s.1 in omega arith) }
+pub seen-none : (k : ℕ) (c : IndexBlocks) (l : ℕ) (ns : List ℕ) (below : List Extent) (left : Left) (K : Known) → ((P : ℕ → ℕ → Type 0) → ((n o : ℕ) → P n o → ⊥) → K P) → left.is_some ≡ false → AreBelow k c l (across c ns) below
+    → IsSeen k c l ns 0 below [] left 0 K
+seen-none k c l ns below left K none first h = record { left_is = first; rest = h; own_is = tt; known = none (IsWrongUpTo c l ns 0) (λ n o s. (let less = s.1 in omega arith)) }
 
 -- the extents behind those of a block's entries
 below-next : (k : ℕ) (c : IndexBlocks) (l : ℕ) (es rs : List Entry) (xs : List Extent) (count : ℕ) → count ≡ length es → AreBelow k c l (es ++ rs) xs → AreBelow k c l rs (drop count xs)
@@ -89,11 +117,11 @@ wrong-from c l ns i n o s = elim (cases_lt s.0 i) [
 ]
 
 -- one block more is judged
-pub seen-next : (k : ℕ) (c : IndexBlocks) (l : ℕ) (ns : List ℕ) (i : ℕ) (below own : List Extent) (left : Left) (place : ℕ) (least : Option (ℕ × ℕ)) (found : Option ℕ) (x : Extent) (count : ℕ) (new : Left)
-    → i < length ns → IsSeen k c l ns i below own left place least → IsFoundIn k l left (c.entries (slice_index ns i)) (drop place below) found → IsLeftBehind k left (c.entries (slice_index ns i)) new
+pub seen-next : (k : ℕ) (c : IndexBlocks) (l : ℕ) (ns : List ℕ) (i : ℕ) (below own : List Extent) (left : Left) (place : ℕ) (K L : Known) (found : Option ℕ) (x : Extent) (count : ℕ) (new : Left)
+    → i < length ns → Notes K (slice_index ns i) found L → IsSeen k c l ns i below own left place K → IsFoundIn k l left (c.entries (slice_index ns i)) (drop place below) found → IsLeftBehind k left (c.entries (slice_index ns i)) new
     → IsExtentBelow k l (c.entries (slice_index ns i)) (drop place below) x → count ≡ length (c.entries (slice_index ns i))
-    → IsSeen k c l ns (i + 1) below (own ++ (x ∷ [])) new (min (length below) (place + count)) (lesser least (option_map (λ (o : ℕ). (slice_index ns i, o)) found))
-seen-next k c l ns i below own left place least found x count new less h f g e is =
+    → IsSeen k c l ns (i + 1) below (own ++ (x ∷ [])) new (min (length below) (place + count)) L
+seen-next k c l ns i below own left place K L found x count new less notes h f g e is =
     let n : ℕ = slice_index ns i in
     let o : Option Entry = last_entry None (across c (take i ns)) in
     let more : take (i + 1) ns ≡ take i ns ++ (n ∷ []) = take_more ns i 0 less in
@@ -107,18 +135,17 @@ seen-next k c l ns i below own left place least found x count new less h f g e i
       left_is = subst (λ (q : Option Entry). IsLeft k new q) (sym last) (g o h.left_is);
       rest = subst (λ (t : List Extent). AreBelow k c l rs t) (drop-least below place count) (below-next k c l (c.entries n) rs (drop place below) count is rest);
       own_is = subst (λ (t : List ℕ). AreExtents k c l t (own ++ (x ∷ []))) (sym more) (extents-more k c l (take i ns) own n x h.own_is (e c n rs refl rest));
-      least_is =
-          least-as (λ m a. IsWrongUpTo c l ns i m a ⊎ ((m ≡ n) × (found ≡ Some a))) (IsWrongUpTo c l ns (i + 1)) (lesser least (option_map (λ (a : ℕ). (n, a)) found))
+      known = notes (IsWrongUpTo c l ns i) (IsWrongUpTo c l ns (i + 1))
           (λ m a s. elim s [ inl p ↦ wrong-to c l ns i m a (inl p) | inr q ↦ wrong-to c l ns i m a (inr (q.0, here ∙ q.1)) ])
           (λ m a s. elim (wrong-from c l ns i m a s) [ inl p ↦ inl p | inr q ↦ inr (q.0, sym here ∙ q.1) ])
-          (least-both (IsWrongUpTo c l ns i) (λ m a. (m ≡ n) × (found ≡ Some a)) least (option_map (λ (a : ℕ). (n, a)) found) h.least_is (least-found n found));
+          h.known;
     }
 
 -- all are judged
-pub seen-all : (k : ℕ) (c : IndexBlocks) (l : ℕ) (ns : List ℕ) (i : ℕ) (below own : List Extent) (left : Left) (place : ℕ) (least : Option (ℕ × ℕ)) → i ≡ length ns → IsSeen k c l ns i below own left place least
-    → AreExtents k c l ns own × IsLeastOf (IsWrongUpTo c l ns (length ns)) least
-seen-all k c l ns i below own left place least is h =
-    (subst (λ (t : List ℕ). AreExtents k c l t own) (take_all i ns (omega arith)) h.own_is, subst (λ (j : ℕ). IsLeastOf (IsWrongUpTo c l ns j) least) is h.least_is)
+pub seen-all : (k : ℕ) (c : IndexBlocks) (l : ℕ) (ns : List ℕ) (i : ℕ) (below own : List Extent) (left : Left) (place : ℕ) (K : Known) → i ≡ length ns → IsSeen k c l ns i below own left place K
+    → AreExtents k c l ns own × K (IsWrongUpTo c l ns (length ns))
+seen-all k c l ns i below own left place K is h =
+    (subst (λ (t : List ℕ). AreExtents k c l t own) (take_all i ns (omega arith)) h.own_is, subst (λ (j : ℕ). K (IsWrongUpTo c l ns j)) is h.known)
 
 -- ---- a volume that was only read
 
@@ -154,24 +181,24 @@ pub slice-from : (xs : List Extent) (place : ℕ) → take (length xs - place) (
 slice-from xs place = take_all (length xs - place) (drop place xs) (let l = length-drop place xs in omega arith)
 
 -- one block more is read and judged
-pub seen-read : (k : ℕ) (v w : VolumeState) (l : ℕ) (ns : List ℕ) (i : ℕ) (below own own2 : List Extent) (left : Left) (place place2 : ℕ) (least found_here least2 : Option (ℕ × ℕ)) (found : Option ℕ) (x : Extent) (count : ℕ) (new : Left) (m : ℕ) (rest : List Extent)
-    → m ≡ slice_index ns i → rest ≡ drop place below → w.size ≡ v.size → w.image ≡ v.image → i < length ns → IsSeen k (index_blocks k v) l ns i below own left place least
+pub seen-read : (k : ℕ) (v w : VolumeState) (l : ℕ) (ns : List ℕ) (i : ℕ) (below own own2 : List Extent) (left : Left) (place place2 : ℕ) (K L : Known) (found : Option ℕ) (x : Extent) (count : ℕ) (new : Left) (m : ℕ) (rest : List Extent)
+    → m ≡ slice_index ns i → rest ≡ drop place below → w.size ≡ v.size → w.image ≡ v.image → i < length ns → Notes K m found L → IsSeen k (index_blocks k v) l ns i below own left place K
     → IsFoundIn k l left (entries_in k (block_at w m)) rest found → IsLeftBehind k left (entries_in k (block_at w m)) new
     → IsExtentBelow k l (entries_in k (block_at w m)) rest x → count ≡ length (entries_in k (block_at w m))
-    → own2 ≡ own ++ (x ∷ []) → place2 ≡ min (length below) (place + count) → found_here ≡ option_map (λ (o : ℕ). (m, o)) found → least2 ≡ lesser least found_here
-    → IsSeen k (index_blocks k v) l ns (i + 1) below own2 new place2 least2
-seen-read k v w l ns i below own own2 left place place2 least found_here least2 found x count new m rest number behind size image less h f g e is own_is place_is here_is least_is =
+    → own2 ≡ own ++ (x ∷ []) → place2 ≡ min (length below) (place + count)
+    → IsSeen k (index_blocks k v) l ns (i + 1) below own2 new place2 L
+seen-read k v w l ns i below own own2 left place place2 K L found x count new m rest number behind size image less notes h f g e is own_is place_is =
     let n : ℕ = slice_index ns i in
     let same : block_at w m ≡ block_at v n = rw (size, image) (ap (block_at v) number) in
     let F : List ℕ → Type 0 = λ t. IsFoundIn k l left (entries_in k t) rest found in
     let G : List Extent → Type 0 = λ t. IsFoundIn k l left (entries_in k (block_at v n)) t found in
-    let L : List ℕ → Type 0 = λ t. IsLeftBehind k left (entries_in k t) new in
+    let B : List ℕ → Type 0 = λ t. IsLeftBehind k left (entries_in k t) new in
     let E : List ℕ → Type 0 = λ t. IsExtentBelow k l (entries_in k t) rest x in
     let X : List Extent → Type 0 = λ t. IsExtentBelow k l (entries_in k (block_at v n)) t x in
     let C : List ℕ → Type 0 = λ t. count ≡ length (entries_in k t) in
-    let next = seen-next k (index_blocks k v) l ns i below own left place least found x count new less h (subst G behind (subst F same f)) (subst L same g) (subst X behind (subst E same e)) (subst C same is) in
-    let all : least2 ≡ lesser least (option_map (λ (o : ℕ). (n, o)) found) = least_is ∙ ap (lesser least) (here_is ∙ ap (λ (a : ℕ). option_map (λ (o : ℕ). (a, o)) found) number) in
-    let S : List Extent → Type 0 = λ t. IsSeen k (index_blocks k v) l ns (i + 1) below t new (min (length below) (place + count)) (lesser least (option_map (λ (o : ℕ). (n, o)) found)) in
-    let P : ℕ → Type 0 = λ t. IsSeen k (index_blocks k v) l ns (i + 1) below own2 new t (lesser least (option_map (λ (o : ℕ). (n, o)) found)) in
-    let T : Option (ℕ × ℕ) → Type 0 = λ t. IsSeen k (index_blocks k v) l ns (i + 1) below own2 new place2 t in
-    subst T (sym all) (subst P (sym place_is) (subst S (sym own_is) next))
+    let own_notes : Notes K n found L =
+    λ P R to from known. notes P R (λ a b s. to a b (elim s [ inl p ↦ inl p | inr q ↦ inr (q.0 ∙ number, q.1) ])) (λ a b r. elim (from a b r) [ inl p ↦ inl p | inr q ↦ inr (q.0 ∙ sym number, q.1) ]) known in
+    let next = seen-next k (index_blocks k v) l ns i below own left place K L found x count new less own_notes h (subst G behind (subst F same f)) (subst B same g) (subst X behind (subst E same e)) (subst C same is) in
+    let S : List Extent → Type 0 = λ t. IsSeen k (index_blocks k v) l ns (i + 1) below t new (min (length below) (place + count)) L in
+    let P : ℕ → Type 0 = λ t. IsSeen k (index_blocks k v) l ns (i + 1) below own2 new t L in
+    subst P (sym place_is) (subst S (sym own_is) next)

@@ -18,10 +18,10 @@ use Rattle.hd_check_index.specs.declared.extents.Extent.{Extent}
 use Rattle.hd_check_index.specs.declared.rows.Standing.{Standing}
 use Rattle.hd_check_index.specs.Rows.{row_of, rows_of, AreRows}
 use Rattle.hd_check_index.specs.BlockExtents.{AreExtents, AreBelow}
-use Rattle.hd_check_index.specs.EntryOrders.{wrong_at, IsWrongUpTo, IsLeastOf, lesser, standing_at}
+use Rattle.hd_check_index.specs.EntryOrders.{wrong_at, IsWrongUpTo, IsLeastOf, standing_at}
 use Rattle.hd_check_index.specs.Judging.{IsFirst}
 use Rattle.hd_check_index.proofs.BlockExtents.{named-length}
-use Rattle.hd_check_index.proofs.RowOrders.{least-as, least-both, blocks-same, row-length, row-at, row-number}
+use Rattle.hd_check_index.proofs.RowOrders.{Known, Joins, blocks-same, row-length, row-at, row-number}
 
 -- ---- rows
 
@@ -186,52 +186,53 @@ abbrev pub IsWrongFrom : ℕ → VolumeState → ℕ → ℕ → ℕ → Type 0
 IsWrongFrom k v steps n o = (s : ℕ) × (steps ≤ s) × (s ≤ top_level v) × IsWrongUpTo (index_blocks k v) (top_level v - s) (row-at-step k v s) (length (row-at-step k v s)) n o
 
 -- The rows behind an index were judged.
-pub record AreJudged (k : ℕ) (v : VolumeState) (rows : List Standing) (end : ℕ) (below : List Extent) (least : Option (ℕ × ℕ)) : Type 0 where
+pub record AreJudged (k : ℕ) (v : VolumeState) (rows : List Standing) (end : ℕ) (below : List Extent) (K : Known) : Type 0 where
   -- so many rows are left
   pub steps : ℕ
   pub few : steps ≤ suc (top_level v)
   pub rest : take end rows ≡ rows_above (index_blocks k v) steps (top_level v) (top_blocks v)
   -- the extents of the last row that was judged
   pub below_is : (s : ℕ) → steps ≡ suc s → AreBelow k (index_blocks k v) (top_level v - s) (across (index_blocks k v) (row-at-step k v s)) below
-  pub least_is : IsLeastOf (IsWrongFrom k v steps) least
+  -- what is known of the rows behind
+  pub known : K (IsWrongFrom k v steps)
 
 -- none was
-pub judged-none : (k : ℕ) (v : VolumeState) (rows : List Standing) → AreRows k v rows → AreJudged k v rows (length rows) [] None
-judged-none k v rows are = record {
+pub judged-none : (k : ℕ) (v : VolumeState) (rows : List Standing) (K : Known) → ((P : ℕ → ℕ → Type 0) → ((n o : ℕ) → P n o → ⊥) → K P) → AreRows k v rows → AreJudged k v rows (length rows) [] K
+judged-none k v rows K none are = record {
   steps = suc (top_level v);
   few = omega arith;
   rest = take_all (length rows) rows (omega arith) ∙ are ∙ rows-all (index_blocks k v) (top_level v) (top_blocks v);
   below_is = λ s is. (let e : 0 ≡ top_level v - s = omega arith in let B : ℕ → Type 0 = λ i. AreBelow k (index_blocks k v) i (across (index_blocks k v) (row-at-step k v s)) [] in subst B e tt);
-  least_is = λ n o w. (let low = w.1 in let high = w.2 in omega arith);
+  known = none (IsWrongFrom k v (suc (top_level v))) (λ n o w. (let low = w.1 in let high = w.2 in omega arith));
 }
 
 -- The last row of those that are left, from an index on.
-pub record IsNextRow (k : ℕ) (v : VolumeState) (rows : List Standing) (end : ℕ) (below : List Extent) (least : Option (ℕ × ℕ)) (start level : ℕ) (row : List Standing) : Type 0 where
+pub record IsNextRow (k : ℕ) (v : VolumeState) (rows : List Standing) (end : ℕ) (below : List Extent) (K : Known) (start level : ℕ) (row : List Standing) : Type 0 where
   pub s : ℕ
   pub low : s ≤ top_level v
   pub level_is : level ≡ top_level v - s
   pub row_is : row ≡ row_of level (row-at-step k v s)
   pub rest : take start rows ≡ rows_above (index_blocks k v) s (top_level v) (top_blocks v)
   pub below_is : AreBelow k (index_blocks k v) level (across (index_blocks k v) (row-at-step k v s)) below
-  pub least_is : IsLeastOf (IsWrongFrom k v (suc s)) least
+  pub known : K (IsWrongFrom k v (suc s))
 
-pub next-row : (k : ℕ) (v : VolumeState) (rows : List Standing) (end : ℕ) (below : List Extent) (least : Option (ℕ × ℕ)) (start level : ℕ) (row : List Standing) → AreFormsRight k v
-    → AreJudged k v rows end below least → 0 < end → end ≤ length rows → start < end
+pub next-row : (k : ℕ) (v : VolumeState) (rows : List Standing) (end : ℕ) (below : List Extent) (K : Known) (start level : ℕ) (row : List Standing) → AreFormsRight k v
+    → AreJudged k v rows end below K → 0 < end → end ≤ length rows → start < end
     → ((i : ℕ) → start ≤ i → i < end → (standing_at rows i).level ≡ (standing_at rows (end - 1)).level)
     → (start ≡ 0) ⊎ ((standing_at rows (start - 1)).level ≢ (standing_at rows (end - 1)).level)
-    → level ≡ (standing_at rows start).level → row ≡ take (end - start) (drop start rows) → IsNextRow k v rows end below least start level row
-next-row k v rows end below least start level row f j some within before same other level_is row_is = by j.steps j.few j.rest j.below_is j.least_is
+    → level ≡ (standing_at rows start).level → row ≡ take (end - start) (drop start rows) → IsNextRow k v rows end below K start level row
+next-row k v rows end below K start level row f j some within before same other level_is row_is = by j.steps j.few j.rest j.below_is j.known
   where
     c : IndexBlocks
     c = index_blocks k v
 
     by : (steps : ℕ) → steps ≤ suc (top_level v) → take end rows ≡ rows_above c steps (top_level v) (top_blocks v)
-        → ((s : ℕ) → steps ≡ suc s → AreBelow k c (top_level v - s) (across c (row-at-step k v s)) below) → IsLeastOf (IsWrongFrom k v steps) least → IsNextRow k v rows end below least start level row
-    by zero few rest below_is least_is =
+        → ((s : ℕ) → steps ≡ suc s → AreBelow k c (top_level v - s) (across c (row-at-step k v s)) below) → K (IsWrongFrom k v steps) → IsNextRow k v rows end below K start level row
+    by zero few rest below_is known =
         let gone : length (take end rows) ≡ 0 = ap (λ (t : List Standing). length t) rest in
         let len = length-take end rows in
         absurd (omega arith)
-    by (suc s) few rest below_is least_is =
+    by (suc s) few rest below_is known =
         let xs : List Standing = rows_above c s (top_level v) (top_blocks v) in
         let l : ℕ = top_level v - s in
         let ns : List ℕ = row-at-step k v s in
@@ -254,13 +255,13 @@ next-row k v rows end below least start level row f j some within before same ot
           row_is = row_is ∙ back ∙ ap (λ (i : ℕ). row_of i ns) (sym is);
           rest = front;
           below_is = subst B (sym is) (below_is s refl);
-          least_is = least_is;
+          known = known;
         }
 
 -- the blocks of the next row are of its level
-pub next-levels : (k : ℕ) (v : VolumeState) (rows : List Standing) (end : ℕ) (below : List Extent) (least : Option (ℕ × ℕ)) (start level : ℕ) (row : List Standing) → AreFormsRight k v
-    → IsNextRow k v rows end below least start level row → (i : ℕ) → i < length row → level_in v (standing_at row i).number ≡ Some level
-next-levels k v rows end below least start level row f next i less =
+pub next-levels : (k : ℕ) (v : VolumeState) (rows : List Standing) (end : ℕ) (below : List Extent) (K : Known) (start level : ℕ) (row : List Standing) → AreFormsRight k v
+    → IsNextRow k v rows end below K start level row → (i : ℕ) → i < length row → level_in v (standing_at row i).number ≡ Some level
+next-levels k v rows end below K start level row f next i less =
     let ns : List ℕ = row-at-step k v next.s in
     let low = next.low in
     let same : length row ≡ length (row_of level ns) = ap (λ (t : List Standing). length t) next.row_is in
@@ -275,19 +276,17 @@ next-levels k v rows end below least start level row f next i less =
     among-at (n ∷ ns) (suc i) less = inr (among-at ns i (omega arith))
 
 -- it is judged
-pub judged-next : (k : ℕ) (v : VolumeState) (rows : List Standing) (end : ℕ) (below own : List Extent) (least found least2 : Option (ℕ × ℕ)) (start level : ℕ) (row : List Standing)
-    → IsNextRow k v rows end below least start level row
+pub judged-next : (k : ℕ) (v : VolumeState) (rows : List Standing) (end : ℕ) (below own : List Extent) (K F L : Known) (start level : ℕ) (row : List Standing)
+    → IsNextRow k v rows end below K start level row
     → ((ns : List ℕ) → row ≡ row_of level ns → AreBelow k (index_blocks k v) level (across (index_blocks k v) ns) below → AreExtents k (index_blocks k v) level ns own)
-    → ((ns : List ℕ) → row ≡ row_of level ns → AreBelow k (index_blocks k v) level (across (index_blocks k v) ns) below → IsLeastOf (IsWrongUpTo (index_blocks k v) level ns (length ns)) found)
-    → least2 ≡ lesser least found → AreJudged k v rows start own least2
-judged-next k v rows end below own least found least2 start level row next owns finds is =
+    → ((ns : List ℕ) → row ≡ row_of level ns → AreBelow k (index_blocks k v) level (across (index_blocks k v) ns) below → F (IsWrongUpTo (index_blocks k v) level ns (length ns)))
+    → Joins K F L → AreJudged k v rows start own L
+judged-next k v rows end below own K F L start level row next owns finds joins =
     let c : IndexBlocks = index_blocks k v in
     let s : ℕ = next.s in
     let low = next.low in
     let ns : List ℕ = row-at-step k v s in
     let extents : AreExtents k c level ns own = owns ns next.row_is next.below_is in
-    let here : IsLeastOf (IsWrongUpTo c level ns (length ns)) found = finds ns next.row_is next.below_is in
-    let L : Option (ℕ × ℕ) → Type 0 = λ t. IsLeastOf (IsWrongFrom k v s) t in
     record {
       steps = s;
       few = omega arith;
@@ -298,9 +297,8 @@ judged-next k v rows end below own least found least2 start level row next owns 
           let B : ℕ → Type 0 = λ i. AreBelow k c i (across c (row-at-step k v r)) own in
           let N : List ℕ → Type 0 = λ t. AreExtents k c level t own in
           subst B up (subst N named_is extents));
-      least_is =
-          subst L (sym is)
-          (least-as (λ n o. IsWrongFrom k v (suc s) n o ⊎ IsWrongUpTo c level ns (length ns) n o) (IsWrongFrom k v s) (lesser least found)
+      known =
+          joins (IsWrongFrom k v (suc s)) (IsWrongUpTo c level ns (length ns)) (IsWrongFrom k v s)
           (λ n o w. elim w [
             | inl later ↦ (later.0, (let l = later.1 in omega arith), later.2, later.3)
             | inr own_row ↦ (let W : ℕ → Type 0 = λ i. IsWrongUpTo c i ns (length ns) n o in (s, omega arith, low, subst W next.level_is own_row))
@@ -314,33 +312,34 @@ judged-next k v rows end below own least found least2 start level row next owns 
                 let V : ℕ → Type 0 = λ i. IsWrongUpTo c i ns (length ns) n o in
                 inr (subst V (sym next.level_is) (subst W e w.3)))
           ])
-          (least-both (IsWrongFrom k v (suc s)) (IsWrongUpTo c level ns (length ns)) least found next.least_is here));
+          next.known (finds ns next.row_is next.below_is);
     }
 
 -- so it is by what was read of it
-pub judged-read : (k : ℕ) (v w : VolumeState) (rows : List Standing) (end : ℕ) (below own : List Extent) (least found least2 : Option (ℕ × ℕ)) (start level : ℕ) (row : List Standing)
-    → w.size ≡ v.size → w.image ≡ v.image → IsNextRow k v rows end below least start level row
+pub judged-read : (k : ℕ) (v w : VolumeState) (rows : List Standing) (end : ℕ) (below own : List Extent) (K F L : Known) (start level : ℕ) (row : List Standing)
+    → w.size ≡ v.size → w.image ≡ v.image → IsNextRow k v rows end below K start level row
     → ((ns : List ℕ) → row ≡ row_of level ns → AreBelow k (index_blocks k w) level (across (index_blocks k w) ns) below → AreExtents k (index_blocks k w) level ns own)
-    → ((ns : List ℕ) → row ≡ row_of level ns → AreBelow k (index_blocks k w) level (across (index_blocks k w) ns) below → IsLeastOf (IsWrongUpTo (index_blocks k w) level ns (length ns)) found)
-    → least2 ≡ lesser least found → AreJudged k v rows start own least2
-judged-read k v w rows end below own least found least2 start level row size image next owns finds is =
+    → ((ns : List ℕ) → row ≡ row_of level ns → AreBelow k (index_blocks k w) level (across (index_blocks k w) ns) below → F (IsWrongUpTo (index_blocks k w) level ns (length ns)))
+    → Joins K F L → AreJudged k v rows start own L
+judged-read k v w rows end below own K F L start level row size image next owns finds joins =
     let same : index_blocks k w ≡ index_blocks k v = blocks-same k v w size image in
-    judged-next k v rows end below own least found least2 start level row next
+    judged-next k v rows end below own K F L start level row next
     (λ ns row_is b.
     (let B : IndexBlocks → Type 0 = λ c. AreBelow k c level (across c ns) below in
     let X : IndexBlocks → Type 0 = λ c. AreExtents k c level ns own in
     subst X same (owns ns row_is (subst B (sym same) b))))
     (λ ns row_is b.
     (let B : IndexBlocks → Type 0 = λ c. AreBelow k c level (across c ns) below in
-    let X : IndexBlocks → Type 0 = λ c. IsLeastOf (IsWrongUpTo c level ns (length ns)) found in
+    let X : IndexBlocks → Type 0 = λ c. F (IsWrongUpTo c level ns (length ns)) in
     subst X same (finds ns row_is (subst B (sym same) b))))
-    is
+    joins
 
 -- all are
-pub judged-all : (k : ℕ) (v : VolumeState) (rows : List Standing) (end : ℕ) (below : List Extent) (least : Option (ℕ × ℕ)) → end ≡ 0 → AreJudged k v rows end below least → IsLeastOf (IsWrongFrom k v 0) least
-judged-all k v rows end below least none j =
+pub judged-all : (k : ℕ) (v : VolumeState) (rows : List Standing) (end : ℕ) (below : List Extent) (K : Known) → ((P Q : ℕ → ℕ → Type 0) → ((n o : ℕ) → P n o → Q n o) → ((n o : ℕ) → Q n o → P n o) → K P → K Q)
+    → end ≡ 0 → AreJudged k v rows end below K → K (IsWrongFrom k v 0)
+judged-all k v rows end below K keeps none j =
     let gone : rows_above (index_blocks k v) j.steps (top_level v) (top_blocks v) ≡ [] = sym j.rest ∙ ap (λ (i : ℕ). take i rows) none in
-    least-as (IsWrongFrom k v j.steps) (IsWrongFrom k v 0) least (λ n o w. (w.0, omega arith, w.2, w.3))
+    keeps (IsWrongFrom k v j.steps) (IsWrongFrom k v 0) (λ n o w. (w.0, omega arith, w.2, w.3))
     (λ n o w. elim (cases_lt w.0 j.steps) [
       | inl above ↦
           (let empty : row-at-step k v w.0 ≡ [] = above-empty (index_blocks k v) j.steps (top_level v) (top_blocks v) w.0 gone above in
@@ -350,7 +349,7 @@ judged-all k v rows end below least none j =
           absurd (omega arith))
       | inr low ↦ (w.0, low, w.2, w.3)
     ])
-    j.least_is
+    j.known
 
 -- ---- what was found
 
@@ -369,7 +368,7 @@ short-is [] n right = omega arith
 short-is (x ∷ left) n right = (let r = short-is left n right in omega arith)
 
 -- a block with an entry out of order is one of a row
-wrong-of : (k : ℕ) (v : VolumeState) (a o : ℕ) → (t : HasEntryOutOfOrder k v a o) → IsWrongFrom k v 0 t.1 o × (a ≡ t.1 * v.size)
+pub wrong-of : (k : ℕ) (v : VolumeState) (a o : ℕ) → (t : HasEntryOutOfOrder k v a o) → IsWrongFrom k v 0 t.1 o × (a ≡ t.1 * v.size)
 wrong-of k v a o t =
     let c : IndexBlocks = index_blocks k v in
     let l : ℕ = t.0 in
@@ -391,7 +390,7 @@ wrong-of k v a o t =
     ((s, omega arith, omega arith, subst V (sym own) (subst W (sym row) (length left, short-is left n right, sym (here-is left n right), wrong))), t.6)
 
 -- and one of a row has one
-of-wrong : (k : ℕ) (v : VolumeState) (n o : ℕ) → IsWrongFrom k v 0 n o → HasEntryOutOfOrder k v (n * v.size) o
+pub of-wrong : (k : ℕ) (v : VolumeState) (n o : ℕ) → IsWrongFrom k v 0 n o → HasEntryOutOfOrder k v (n * v.size) o
 of-wrong k v n o w =
     let c : IndexBlocks = index_blocks k v in
     let s : ℕ = w.0 in

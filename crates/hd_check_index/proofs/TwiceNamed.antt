@@ -1,17 +1,13 @@
 -- Blocks that are named twice, by the list of all names.
-use Rattle.std.proofs.Common.{◌≡◌, ◌≢◌, inl, inr, ℕ, zero, suc, ◌+◌, ◌-◌, ◌*◌, ◌<◌, ◌≤◌, List, [], ◌∷◌, length, Bool, cond, slice_index, refl, sym, ap, subst, ◌∙◌, arith, ne_eqb}
-use Rattle.std.specs.Prelude.{◌==◌, map}
-use Rattle.std.specs.List.{sum_by}
-use Rattle.std.specs.List.Sorted.{IsPermutation, IsNonDecreasing}
-use Rattle.std.proofs.lemmas.Bool.{cases_lt, cases_eq, cases_order, eq-eqb}
+use Rattle.std.proofs.Common.{◌≡◌, ◌≢◌, inl, inr, ℕ, zero, suc, ◌*◌, ◌<◌, ◌≤◌, List, [], ◌∷◌, length, slice_index, refl, sym, ap, subst, ◌∙◌, arith}
+use Rattle.std.specs.Prelude.{map}
+use Rattle.std.proofs.lemmas.Bool.{cases_lt, cases_eq, cases_order}
 use Rattle.std.proofs.lemmas.Nat.{mul-le}
-use Rattle.std.proofs.lemmas.List.Sums.{sum_by-cons}
-use Rattle.std.proofs.lemmas.List.Sorted.{sum_by-IsPermutation}
 use Rattle.hd_dbd.specs.Hierarchy.{Database}
 use Rattle.hd_volume.specs.Headers.{header_of}
 use Rattle.hd_volume.specs.Volumes.{VolumeState, IsKind}
 use Rattle.hd_volume.specs.Indexes.{root_key_length}
-use Rattle.hd_image.specs.IndexFaults.{NamesBlock}
+use Rattle.hd_image.specs.IndexFaults.{NamesBlock, IsNamedTwice}
 use Rattle.hd_image.specs.declared.line.Line.TheVariants.{NamedTwice}
 use Rattle.hd_check_index.specs.declared.noted_blocks.ChainedBlock.{ChainedBlock}
 use Rattle.hd_check_blocks.specs.Phases.{IsLeastOf}
@@ -101,20 +97,29 @@ module _ (v : VolumeState) (bs : List ChainedBlock) (top : ℕ) (h : AreIndexBlo
     ]
   ]
 
+  -- a number that stands twice is that of a block that is named twice
+  pub twice-stands : (k n : ℕ) → IsIndexRight k v → 0 < n → IsTwice n (names_of top bs) → IsNamedTwice v (n * v.size) 0
+  twice-stands k n right some two =
+      let less = two.2 in
+      let within = two.3 in
+      (n, holder-at bs two.0, holder-at bs two.1, named-kind k right n two.0 some (omega arith) two.4, holds n two.0 (omega arith) two.4, holds n two.1 within two.5, apart two.0 two.1 less within, refl, refl)
+
+  -- and the number of such a block does
+  pub stands-twice : (a o : ℕ) (t : IsNamedTwice v a o) → IsTwice t.0 (names_of top bs)
+  stands-twice a o t = named-two t.0 t.1 t.2 t.4 t.5 t.6
+
   -- the least number that stands twice is the least fault
   pub twice-least : (d : Database) (n : ℕ) → IsIndexRight (root_key_length d.types) v → 0 < n → IsTwice n (names_of top bs) → ((m : ℕ) → 0 < m → m < n → IsTwice m (names_of top bs) → ⊥)
       → IsLeastOf d v 9 (record { line = NamedTwice; address = n * v.size; other = 0 })
   twice-least d n right some two least =
-      let less = two.2 in
-      let within = two.3 in
       least-late d v 9 (record { line = NamedTwice; address = n * v.size; other = 0 }) (omega arith) (λ e. omega arith) refl
-      (inl (right.version, (n, holder-at bs two.0, holder-at bs two.1, named-kind (root_key_length d.types) right n two.0 some (omega arith) two.4, holds n two.0 (omega arith) two.4, holds n two.1 within two.5, apart two.0 two.1 less within, refl, refl)))
+      (inl (right.version, twice-stands (root_key_length d.types) n right some two))
       (λ k a o of s.
       (let t = stands-9 d v k a o right.version of s in
       let m : ℕ = t.0 in
       let at = t.7 in
       elim (cases_lt m n) [
-        | inl low ↦ absurd (least m t.3.later low (named-two m t.1 t.2 t.4 t.5 t.6))
+        | inl low ↦ absurd (least m t.3.later low (stands-twice a o t))
         | inr high ↦ (let l : n * v.size ≤ m * v.size = mul-le n v.size m v.size high (omega arith) in omega arith)
       ]))
 

@@ -1,12 +1,10 @@
 -- Blocks that are named twice, by the list of all names.
 use Rattle.std.proofs.Common.{◌≡◌, ◌≢◌, ◌⊎◌, inl, inr, ℕ, zero, suc, ◌+◌, ◌-◌, ◌*◌, ◌<◌, ◌≤◌, List, [], ◌∷◌, ◌++◌, length, Bool, cond, Option, Some, None, IfNone, IfSome, take, slice_index, refl, sym, ap, subst, ◌∙◌, arith, ne_eqb, append_assoc}
-use Rattle.std.specs.Prelude.{◌==◌, slice_get}
-use Rattle.std.specs.List.{sum_by}
-use Rattle.std.specs.List.Sorted.{IsPermutation, IsNonDecreasing}
+use Rattle.std.specs.Prelude.{slice_get}
+use Rattle.std.specs.List.Sorted.{IsPermutation}
 use Rattle.std.proofs.lemmas.Bool.{cases_lt, cases_eq, cases_order, eq-eqb}
 use Rattle.std.proofs.lemmas.Nat.{mul-le}
-use Rattle.std.proofs.lemmas.List.Sums.{sum_by-cons}
-use Rattle.std.proofs.lemmas.List.Sorted.{sum_by-IsPermutation, IsPermutation-sym}
+use Rattle.std.proofs.lemmas.List.Sorted.{IsPermutation-sym}
 use Rattle.hd_volume.specs.Headers.{header_of}
 use Rattle.hd_volume.specs.Volumes.{VolumeState, block_at, IsKind}
 use Rattle.hd_volume.specs.Entries.{entries_at, entries_in}
@@ -253,9 +251,9 @@ module _ (k : ℕ) (v : VolumeState) (bs : List NotedBlock) (top : ℕ) (h : Are
   named-kind f n g j some (inr t) =
       (level-kind v n t.0 ((f.blocks g (suc t.0) t.1).names t.0 n refl (get-among (named (entries_in k (block_at v g))) j n t.2))).0
 
-  -- the least number that stands twice is that of the first block that is named twice
-  twice-first : AreFormsRight k v → (n : ℕ) → 0 < n → IsTwice n (names_of k v top bs) → ((m : ℕ) → 0 < m → m < n → IsTwice m (names_of k v top bs) → ⊥) → IsFirst v (IsNamedTwice k v) n 0
-  twice-first f n some two least =
+  -- a number that stands twice is that of a block that is named twice
+  pub twice-stands : AreFormsRight k v → (n : ℕ) → 0 < n → IsTwice n (names_of k v top bs) → IsNamedTwice k v (n * v.size) 0
+  twice-stands f n some two =
       let less = two.2 in
       let within = two.3 in
       let x = named-there n two.0 (omega arith) two.4 in
@@ -264,16 +262,24 @@ module _ (k : ℕ) (v : VolumeState) (bs : List NotedBlock) (top : ℕ) (h : Are
       λ e. (let P : ℕ → ℕ → Type 0 = λ a b. PlaceAt k v bs two.0 a b in
       let moved = subst (λ (a : ℕ). P a y.entry) e.0 (subst (λ (b : ℕ). P x.block b) e.1 x.place) in
       let same = one-index k v bs two.0 two.1 y.block y.entry h.ascend moved y.place in omega arith) in
-      record {
-        here = (n, x.block, x.entry, y.block, y.entry, named-kind f n x.block x.entry some x.names, x.names, y.names, other, refl, refl);
-        least = λ a o t.
-            (let m : ℕ = t.0 in
-            let at = t.9 in
-            elim (cases_lt m n) [
-              | inl low ↦ absurd (least m t.5.later low (named-two m t.1 t.2 t.3 t.4 t.6 t.7 t.8))
-              | inr high ↦ (let l : n * v.size ≤ m * v.size = mul-le n v.size m v.size high (omega arith) in omega arith)
-            ]);
-      }
+      (n, x.block, x.entry, y.block, y.entry, named-kind f n x.block x.entry some x.names, x.names, y.names, other, refl, refl)
+
+  -- and the number of such a block does
+  pub stands-twice : (a o : ℕ) (t : IsNamedTwice k v a o) → IsTwice t.0 (names_of k v top bs)
+  stands-twice a o t = named-two t.0 t.1 t.2 t.3 t.4 t.6 t.7 t.8
+
+  -- the least number that stands twice is that of the first block that is named twice
+  twice-first : AreFormsRight k v → (n : ℕ) → 0 < n → IsTwice n (names_of k v top bs) → ((m : ℕ) → 0 < m → m < n → IsTwice m (names_of k v top bs) → ⊥) → IsFirst v (IsNamedTwice k v) n 0
+  twice-first f n some two least = record {
+    here = twice-stands f n some two;
+    least = λ a o t.
+        (let m : ℕ = t.0 in
+        let at = t.9 in
+        elim (cases_lt m n) [
+          | inl low ↦ absurd (least m t.5.later low (stands-twice a o t))
+          | inr high ↦ (let l : n * v.size ≤ m * v.size = mul-le n v.size m v.size high (omega arith) in omega arith)
+        ]);
+  }
 
   -- what is found among the names in another order
   pub found-twice : AreFormsRight k v → (names : List ℕ) → IsPermutation (names_of k v top bs) names → (found : Option ℕ) → IfNone found ((n : ℕ) → 0 < n → IsTwice n names → ⊥)

@@ -1,10 +1,9 @@
 -- Numbers that stand twice in a list: in order of the numbers they stand side by side.
-use Rattle.std.proofs.Common.{◌≡◌, ◌≢◌, inl, inr, ℕ, zero, suc, ◌+◌, ◌-◌, ◌*◌, ◌<◌, ◌≤◌, List, [], ◌∷◌, length, Bool, cond, slice_index, refl, sym, ap, subst, ◌∙◌, arith, ne_eqb}
-use Rattle.std.specs.Prelude.{◌==◌, map}
+use Rattle.std.proofs.Common.{◌≡◌, ◌≢◌, inl, inr, ℕ, zero, suc, ◌+◌, ◌-◌, ◌<◌, ◌≤◌, List, [], ◌∷◌, length, Bool, cond, slice_index, refl, sym, ap, ◌∙◌, arith, ne_eqb}
+use Rattle.std.specs.Prelude.{◌==◌}
 use Rattle.std.specs.List.{sum_by}
 use Rattle.std.specs.List.Sorted.{IsPermutation, IsNonDecreasing}
-use Rattle.std.proofs.lemmas.Bool.{cases_lt, cases_eq, cases_order, eq-eqb}
-use Rattle.std.proofs.lemmas.Nat.{mul-le}
+use Rattle.std.proofs.lemmas.Bool.{cases_lt, cases_eq, eq-eqb}
 use Rattle.std.proofs.lemmas.List.Sums.{sum_by-cons}
 use Rattle.std.proofs.lemmas.List.Sorted.{sum_by-IsPermutation}
 use Rattle.hd_check_index.specs.Marks.{IsTwice}
@@ -105,3 +104,14 @@ least-twice xs i up some within same none m positive less h =
       | inl low ↦ (let z = none h.0 low e in omega arith)
       | inr high ↦ (let o = up (i - 1) h.0 0 (omega arith) (omega arith) in omega arith)
     ]
+
+-- a number whose neighbours differ from it does not stand twice
+pub once-here : (n : ℕ) (xs : List ℕ) (i : ℕ) → IsNonDecreasing xs → i < length xs → slice_index xs i ≡ n → (0 < i → slice_index xs (i - 1) ≢ n) → (i + 1 < length xs → slice_index xs (i + 1) ≢ n) → IsTwice n xs → ⊥
+once-here n xs i up within here before behind (j, k, less, l, a, b) = elim (cases_lt i k) [
+  | inl low ↦ (let one = up i (i + 1) 0 (omega arith) (omega arith) in let two = up (i + 1) k 0 (omega arith) l in behind (omega arith) (omega arith))
+  | inr high ↦ (let one = up j (i - 1) 0 (omega arith) (omega arith) in let two = up (i - 1) i 0 (omega arith) within in before (omega arith) (omega arith))
+]
+
+-- one that stands twice side by side does
+pub twice-side : (n : ℕ) (xs : List ℕ) (i : ℕ) → i + 1 < length xs → slice_index xs i ≡ n → slice_index xs (i + 1) ≡ n → IsTwice n xs
+twice-side n xs i l a b = (i, i + 1, omega arith, l, a, b)

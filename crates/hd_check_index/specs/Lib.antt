@@ -11,3 +11,4 @@ pub mod Standings
 pub mod Counted
 pub mod IndexPhases
 pub mod LeftKeys
+pub mod Listed

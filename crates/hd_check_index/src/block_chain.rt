@@ -8,11 +8,13 @@ ghost use Rattle.hd_volume.specs.Indexes.{root_key_length};
 ghost use Rattle.hd_image.specs.Records.{IsVolumeOf};
 ghost use Rattle.hd_image.specs.Right.{ChainIsFormed};
 ghost use Rattle.hd_check_blocks.specs.Phases.{IsLeastOf};
+ghost use Rattle.hd_check_blocks.specs.Listing.{AreStanding};
 ghost use Rattle.hd_check_index.specs.Marks.{AreMarkedBefore, mark_at};
-ghost use Rattle.hd_check_index.specs.IndexPhases.{AreNamedOnce, IsChainable, IsWalked, index_block_at, IfRightByBlock};
+ghost use Rattle.hd_check_index.specs.IndexPhases.{AreNamedOnce, IsChainable, IsWalked, AreMarks, index_block_at, IfRightByBlock};
 
+use crate::listed::fault_unless;
 use crate::noted_blocks::{ChainedBlock, block_address, position_of};
-use hd_check_blocks::Fault;
+use hd_check_blocks::{Fault, list_fault};
 use hd_dbd::Refused;
 use hd_image::Line;
 use std::alloc::Global;
@@ -88,4 +90,43 @@ pub fn unreached_block_fault(
         None => Ok(None),
         Some(n) => Ok(Some(Fault::at(Line::UnreachedBlock, block_address(n, size), 0))),
     }
+}
+
+/// All of the blocks that have no mark.
+fn unmarked_faults(
+    alloc: Global,
+    blocks: &[ChainedBlock],
+    marks: &[bool],
+    size: u32,
+) -> Result<Vec<Fault>, Refused>
+    requires as_many { length marks.now ≡ length blocks.now }
+    ensures faults { (d : Database) (v : VolumeState) (top : ℕ) → IfRightByBlock d v blocks.now top (IsVolumeOf d v → size ≡ v.size
+        → AreMarks blocks.now (entry_blocks v) marks.now → IfOk result (λ faults. AreStanding d v 10 faults.items)) }
+    ensures refusal { OnlyMemory result }
+{
+    let mut faults = Vec::new(alloc);
+    for i in 0..blocks.len() {
+        let block = blocks[i];
+        list_fault(
+            &mut faults,
+            fault_unless(marks[i], Line::UnreachedBlock, block.number, size),
+        )?;
+    }
+    Ok(faults)
+}
+
+/// All index blocks that are not reached from the top block.
+pub fn unreached_block_faults(
+    alloc: Global,
+    blocks: &[ChainedBlock],
+    top: u32,
+    size: u32,
+) -> Result<Vec<Fault>, Refused>
+    ensures faults { (d : Database) (v : VolumeState) → IfRightByBlock d v blocks.now top (AreNamedOnce v → IsVolumeOf d v → size ≡ v.size → IfOk result (λ faults. AreStanding d v 10 faults.items)) }
+    ensures refusal { OnlyMemory result }
+{
+    let mut chain = Vec::new(alloc);
+    let mut marks = no_marks(alloc, blocks.len())?;
+    walk(&mut chain, &mut marks, blocks, top)?;
+    unmarked_faults(alloc, blocks, &marks, size)
 }

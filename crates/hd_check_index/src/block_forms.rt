@@ -1,7 +1,7 @@
 //! Phase 8: top and height of the index, and the form of its blocks.
-ghost use Rattle.std.specs.Prelude.{◌≡◌, ◌≤◌, ◌<◌, ℕ, [], length, true, false, IsTrue, IfNone, IfSome, OnOk};
+ghost use Rattle.std.specs.Prelude.{◌≡◌, ◌≤◌, ◌<◌, ℕ, [], length, true, false, IsTrue, IfOk, IfNone, IfSome, OnOk};
 ghost use Rattle.hd_bytes.specs.Blocks.{HasBlock};
-ghost use Rattle.hd_dbd.specs.Refusals.{OnlyDeviceOrMemory};
+ghost use Rattle.hd_dbd.specs.Refusals.{OnlyMemory, OnlyDeviceOrMemory};
 ghost use Rattle.hd_volume.specs.Headers.{HasHeader, header_of};
 ghost use Rattle.hd_volume.specs.Volumes.{VolumeState, IsKind};
 ghost use Rattle.hd_volume.specs.Indexes.{root_key_length, entry_room};
@@ -10,12 +10,14 @@ ghost use Rattle.hd_volume.specs.declared.load.TheConstants.{MOST_BLOCKS};
 ghost use Rattle.hd_image.specs.Records.{IsVolumeOf};
 ghost use Rattle.hd_image.specs.IndexFaults.{IsOfLevel, IsWrongTop};
 ghost use Rattle.hd_check_blocks.specs.Phases.{IsLeastOf};
+ghost use Rattle.hd_check_blocks.specs.Listing.{AreStanding};
 ghost use Rattle.hd_check_index.specs.Judging.{IfSized};
 ghost use Rattle.hd_check_index.specs.IndexPhases.{AreIndexBlocks, AreForms, IsNotedBlock, IsTopRight, IsRightIndexBlock, IsFirstWrong, IsIndexRight, IfHeaded, IfTabled, IfOwnForm, OfFormed};
 ghost use Rattle.hd_check_blocks.specs.Finding.{WhereNone, WhereSome};
 
+use crate::listed::{fault_unless, top_fault};
 use crate::noted_blocks::{ChainedBlock, Form, block_address, position_of};
-use hd_check_blocks::Fault;
+use hd_check_blocks::{Fault, list_fault};
 use hd_dbd::{Dbd, Refused};
 use hd_image::Line;
 use hd_index_blocks::{FIRST, IndexBlock, entry_room, root_key_length};
@@ -200,4 +202,61 @@ pub fn block_forms_fault<S: BlockStore>(
         room,
         size as u32,
     ))
+}
+
+/// All that is wrong with an index of these blocks and forms, whose header says this.
+fn form_faults(
+    alloc: Global,
+    blocks: &[ChainedBlock],
+    forms: &[Form],
+    top: u32,
+    height: u32,
+    room: usize,
+    size: u32,
+) -> Result<Vec<Fault>, Refused>
+    requires as_many { length forms.now ≡ length blocks.now }
+    ensures faults { OfFormed blocks.now forms.now top height room (λ d v. size ≡ v.size → IfOk result (λ faults. AreStanding d v 8 faults.items)) }
+    ensures refusal { OnlyMemory result }
+{
+    let mut faults = Vec::new(alloc);
+    let right = is_top_right(blocks, forms, top, height);
+    list_fault(&mut faults, top_fault(right, top))?;
+    for i in 0..blocks.len() {
+        let block = blocks[i];
+        let right = is_block_right(blocks, forms, height, room, block, forms[i]);
+        list_fault(
+            &mut faults,
+            fault_unless(right, Line::WrongForm, block.number, size),
+        )?;
+    }
+    Ok(faults)
+}
+
+/// All that is wrong with the index's top and height and with the form of its blocks, block by block.
+pub fn block_forms_faults<S: BlockStore>(
+    alloc: Global,
+    volume: &mut Volume<S>,
+    dbd: &Dbd,
+) -> Result<Vec<Fault>, Refused>
+    requires of { IsTrue volume.old.is_sound → IsVolumeOf dbd.now volume.old }
+    requires version { IsTrue volume.old.is_sound → (header_of volume.old.image).version ≡ 1 }
+    ensures read { IsRead volume.old result volume.new }
+    ensures faults { IfOk result (λ faults. IsTrue volume.old.is_sound → AreStanding dbd.now volume.old 8 faults.items) }
+    ensures refusal { OnlyDeviceOrMemory result }
+{
+    let mut blocks = Vec::new(alloc);
+    let mut forms = Vec::new(alloc);
+    let key_length = root_key_length(dbd);
+    note_blocks(&mut blocks, &mut forms, volume, key_length)?;
+    let size = volume.block_size();
+    let room = entry_room(key_length, size);
+    form_faults(
+        alloc,
+        &blocks,
+        &forms,
+        volume.top(),
+        volume.height(),
+        room,
+        size as u32,
+    )
 }

@@ -1,7 +1,7 @@
 //! Phase 11: the keys of the entries ascend.
 ghost use Rattle.std.specs.Prelude.{◌≡◌, ◌≤◌, ◌<◌, ◌*◌, length, None, take, true, false, IsTrue, IfOk, Option};
 ghost use Rattle.std.specs.Option.{option_map_or};
-ghost use Rattle.hd_dbd.specs.Refusals.{OnlyDevice};
+ghost use Rattle.hd_dbd.specs.Refusals.{OnlyDevice, OnlyDeviceOrMemory};
 ghost use Rattle.hd_volume.specs.Headers.{header_of};
 ghost use Rattle.hd_volume.specs.Volumes.{block_at};
 ghost use Rattle.hd_volume.specs.Entries.{Entry, entries_in, entry_blocks, entries};
@@ -10,17 +10,20 @@ ghost use Rattle.hd_volume.specs.Calls.{IsRead};
 ghost use Rattle.hd_image.specs.Records.{IsVolumeOf};
 ghost use Rattle.hd_image.specs.Right.{ChainIsFormed};
 ghost use Rattle.hd_check_blocks.specs.Phases.{IsLeastOf};
+ghost use Rattle.hd_check_blocks.specs.Listing.{AreStanding};
 ghost use Rattle.hd_check_index.specs.LeftKeys.{IsLeft, lesser, IsFirstNotAbove, IsLeftBehind, IsFoundWith};
 ghost use Rattle.hd_check_blocks.specs.Finding.{WhereNone, WhereSome};
 ghost use Rattle.hd_index_blocks.specs.Fields.{CountFits};
 
+use crate::listed::{fault_naming, in_order};
 use crate::noted_blocks::block_address;
-use hd_check_blocks::Fault;
+use hd_check_blocks::{Fault, list_fault};
 use hd_dbd::{Dbd, Refused, compare_keys};
 use hd_image::Line;
 use hd_index_blocks::{FIRST, IndexBlock, root_key_length};
 use hd_stores::BlockStore;
 use hd_volume::Volume;
+use std::alloc::Global;
 
 /// The key of the entry to the left, at the front, if there is one.
 #[derive(Clone, Copy)]
@@ -163,4 +166,36 @@ pub fn entry_order_fault<S: BlockStore>(
         least = least_with(least, found, *n, size);
     }
     Ok(least)
+}
+
+/// All blocks with a key that is not above the one to its left, each with what the first such entry names.
+pub fn entry_order_faults<S: BlockStore>(
+    alloc: Global,
+    chain: &[u32],
+    volume: &mut Volume<S>,
+    dbd: &Dbd,
+) -> Result<Vec<Fault>, Refused>
+    requires of { IsTrue volume.old.is_sound → IsVolumeOf dbd.now volume.old }
+    requires version { IsTrue volume.old.is_sound → (header_of volume.old.image).version ≡ 1 }
+    requires formed { IsTrue volume.old.is_sound → ChainIsFormed (root_key_length dbd.now.types) volume.old }
+    requires chain { IsTrue volume.old.is_sound → chain.now ≡ entry_blocks volume.old }
+    ensures read { IsRead volume.old result volume.new }
+    ensures faults { IfOk result (λ faults. IsTrue volume.old.is_sound → AreStanding dbd.now volume.old 11 faults.items) }
+    ensures refusal { OnlyDeviceOrMemory result }
+{
+    let size = volume.block_size() as u32;
+    let key_length = root_key_length(dbd);
+    let mut left = Left {
+        key: [0; 255],
+        is_some: false,
+    };
+    let mut found = Vec::new(alloc);
+    for n in chain {
+        let other = not_above_in(&mut left, volume, key_length, *n)?;
+        list_fault(
+            &mut found,
+            fault_naming(other, Line::EntryOutOfOrder, *n, size),
+        )?;
+    }
+    in_order(alloc, found)
 }

@@ -1,6 +1,6 @@
 //! Phase 8: top and height of the index, and the form of its blocks.
 ghost use Rattle.std.specs.Prelude.{◌≡◌, ◌≢◌, ◌*◌, ◌≤◌, ℕ, Some, true, false, IsTrue, IfOk};
-ghost use Rattle.hd_dbd.specs.Refusals.{OnlyDevice};
+ghost use Rattle.hd_dbd.specs.Refusals.{OnlyDevice, OnlyDeviceOrMemory};
 ghost use Rattle.hd_volume.specs.Headers.{header_of};
 ghost use Rattle.hd_volume.specs.Volumes.{VolumeState};
 ghost use Rattle.hd_volume.specs.Calls.{IsRead};
@@ -13,12 +13,18 @@ ghost use Rattle.hd_check_index.specs.Judging.{IfSized};
 ghost use Rattle.hd_check_index.specs.NotedBlocks.{IsNotedRight, AreOfLevel, HasStray};
 ghost use Rattle.hd_check_index.specs.Judging.{IsFoundAt, WhereFound};
 ghost use Rattle.hd_check_index.specs.Counted.{OfEntries};
+ghost use Rattle.hd_image.specs.Records.{IsVolumeOf};
+ghost use Rattle.hd_check_blocks.specs.Listing.{AreStanding};
 
+use crate::listed::{fault_unless, top_fault};
 use crate::table::{NotedBlock, position_of};
-use hd_dbd::Refused;
-use hd_index_blocks::{FIRST, IndexBlock, entry_room};
+use hd_check_blocks::{Fault, list_fault};
+use hd_dbd::{Dbd, Refused};
+use hd_image::Line;
+use hd_index_blocks::{FIRST, IndexBlock, entry_room, root_key_length};
 use hd_stores::BlockStore;
 use hd_volume::Volume;
+use std::alloc::Global;
 
 /// How many levels an index has at most.
 const MOST_LEVELS: u32 = 64;
@@ -128,4 +134,35 @@ pub fn wrong_form<S: BlockStore>(
         }
     }
     Ok(None)
+}
+
+/// All that is wrong with top and height and with the form of the blocks of an index set, block by block.
+pub fn set_form_faults<S: BlockStore>(
+    alloc: Global,
+    blocks: &[NotedBlock],
+    volume: &mut Volume<S>,
+    dbd: &Dbd,
+) -> Result<Vec<Fault>, Refused>
+    requires of { IsTrue volume.old.is_sound → IsVolumeOf dbd.now volume.old }
+    requires later { IsTrue volume.old.is_sound → (header_of volume.old.image).version ≢ 1 }
+    requires blocks { IsTrue volume.old.is_sound → AreIndexBlocks volume.old blocks.now }
+    ensures read { IsRead volume.old result volume.new }
+    ensures faults { IfOk result (λ faults. IsTrue volume.old.is_sound → AreStanding dbd.now volume.old 8 faults.items) }
+    ensures refusal { OnlyDeviceOrMemory result }
+{
+    let key_length = root_key_length(dbd);
+    let top = volume.top();
+    let height = volume.height();
+    let size = volume.block_size() as u32;
+    let mut faults = Vec::new(alloc);
+    let right = is_top_right(blocks, top, height);
+    list_fault(&mut faults, top_fault(right, top))?;
+    for block in blocks {
+        let right = is_block_right(volume, blocks, key_length, height, *block)?;
+        list_fault(
+            &mut faults,
+            fault_unless(right, Line::WrongForm, block.number, size),
+        )?;
+    }
+    Ok(faults)
 }

@@ -1,5 +1,6 @@
 //! Phase 9: no index block is named twice.
-ghost use Rattle.std.specs.Prelude.{◌≡◌, ◌≤◌, ◌<◌, ◌++◌, IsTrue, OnOk, IfOk};
+ghost use Rattle.std.specs.Prelude.{◌≡◌, ◌≢◌, ◌≤◌, ◌<◌, ◌++◌, ℕ, IsTrue, OnOk, IfOk};
+ghost use Rattle.std.specs.List.Sorted.{IsPermutation, IsNonDecreasing};
 ghost use Rattle.hd_bytes.specs.Blocks.{HasBlock};
 ghost use Rattle.hd_dbd.specs.Refusals.{OnlyMemory, OnlyDeviceOrMemory};
 ghost use Rattle.hd_volume.specs.Headers.{header_of};
@@ -9,14 +10,22 @@ ghost use Rattle.hd_index_blocks.specs.Levels.{named};
 ghost use Rattle.hd_index_blocks.specs.Faultless.{IsFormRight, AreFormsRight};
 ghost use Rattle.hd_index_blocks.specs.LevelFaults.{IsNamedTwice};
 ghost use Rattle.hd_index_blocks.specs.Fields.{CountFits};
+ghost use Rattle.hd_dbd.specs.Hierarchy.{Database};
+ghost use Rattle.hd_volume.specs.Volumes.{VolumeState};
+ghost use Rattle.hd_volume.specs.Indexes.{root_key_length};
+ghost use Rattle.hd_image.specs.Records.{IsVolumeOf};
+ghost use Rattle.hd_check_blocks.specs.Listing.{AreStanding};
 ghost use Rattle.hd_check_index.specs.Tables.{AreIndexBlocks};
 ghost use Rattle.hd_check_index.specs.NamedBlocks.{names_in, names_of};
 ghost use Rattle.hd_check_index.specs.Judging.{IsFoundAt, WhereFound};
 
+use crate::listed::fault_unless;
 use crate::table::NotedBlock;
-use crate::twice::first_twice;
-use hd_dbd::Refused;
-use hd_index_blocks::{FIRST, IndexBlock};
+use crate::twice::{first_twice, is_once};
+use hd_check_blocks::{Fault, list_fault};
+use hd_dbd::{Dbd, Refused};
+use hd_image::Line;
+use hd_index_blocks::{FIRST, IndexBlock, root_key_length};
 use hd_stores::BlockStore;
 use hd_volume::Volume;
 use std::alloc::Global;
@@ -104,4 +113,48 @@ pub fn twice_named<S: BlockStore>(
     let mut names = names_of(alloc, volume, blocks, key_length, top)?;
     names.sort_unstable();
     Ok(first_twice(&names))
+}
+
+/// All blocks whose numbers stand twice among these names, which are in order.
+fn twice_faults(
+    alloc: Global,
+    blocks: &[NotedBlock],
+    names: &[u32],
+    size: u32,
+) -> Result<Vec<Fault>, Refused>
+    ensures faults { IsNonDecreasing names.now → (d : Database) (v : VolumeState) → IsVolumeOf d v → (header_of v.image).version ≢ 1 → AreIndexBlocks v blocks.now → AreFormsRight (root_key_length d.types) v → size ≡ v.size
+        → IsPermutation (names_of (root_key_length d.types) v (header_of v.image).top blocks.now) names.now → IfOk result (λ faults. AreStanding d v 9 faults.items) }
+    ensures refusal { OnlyMemory result }
+{
+    let mut faults = Vec::new(alloc);
+    for block in blocks {
+        let right = is_once(names, block.number);
+        list_fault(
+            &mut faults,
+            fault_unless(right, Line::NamedTwice, block.number, size),
+        )?;
+    }
+    Ok(faults)
+}
+
+/// All blocks of an index set that are named twice, by the header as the top or by upper entries.
+pub fn set_name_faults<S: BlockStore>(
+    alloc: Global,
+    blocks: &[NotedBlock],
+    volume: &mut Volume<S>,
+    dbd: &Dbd,
+) -> Result<Vec<Fault>, Refused>
+    requires of { IsTrue volume.old.is_sound → IsVolumeOf dbd.now volume.old }
+    requires later { IsTrue volume.old.is_sound → (header_of volume.old.image).version ≢ 1 }
+    requires blocks { IsTrue volume.old.is_sound → AreIndexBlocks volume.old blocks.now }
+    requires forms { IsTrue volume.old.is_sound → AreFormsRight (root_key_length dbd.now.types) volume.old }
+    ensures read { IsRead volume.old result volume.new }
+    ensures faults { IfOk result (λ faults. IsTrue volume.old.is_sound → AreStanding dbd.now volume.old 9 faults.items) }
+    ensures refusal { OnlyDeviceOrMemory result }
+{
+    let top = volume.top();
+    let size = volume.block_size() as u32;
+    let mut names = names_of(alloc, volume, blocks, root_key_length(dbd), top)?;
+    names.sort_unstable();
+    twice_faults(alloc, blocks, &names, size)
 }

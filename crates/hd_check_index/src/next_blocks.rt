@@ -31,7 +31,7 @@ fn follower_of(rows: &[Standing], i: usize) -> u32
 }
 
 /// Whether a block in a row names another one as the next than the one that follows.
-fn is_next_wrong(blocks: &[NotedBlock], rows: &[Standing], i: usize) -> bool
+pub fn is_next_wrong(blocks: &[NotedBlock], rows: &[Standing], i: usize) -> bool
     requires within { i < length rows.now }
     ensures wrong { result ≡ true → (v : VolumeState) → AreIndexBlocks v blocks.now → next_in v (standing_at rows.now i).number ≢ follower rows.now i }
     ensures right { result ≡ false → (v : VolumeState) → AreIndexBlocks v blocks.now → IsKind v 2 (standing_at rows.now i).number → next_in v (standing_at rows.now i).number ≡ follower rows.now i }

@@ -1,5 +1,5 @@
 //! Phase 11: on each level the keys ascend, and upper keys keep their bounds.
-ghost use Rattle.std.specs.Prelude.{◌≡◌, ◌≢◌, ◌⊎◌, ℕ, ◌-◌, ◌≤◌, ◌<◌, length, take, drop, [], ◌∷◌, ◌++◌, option_map, Option, None, Some, true, IsTrue, IfOk, IfNone, IfSome};
+ghost use Rattle.std.specs.Prelude.{◌≡◌, ◌≢◌, ◌⊎◌, ℕ, ◌-◌, ◌*◌, ◌≤◌, ◌<◌, length, take, drop, [], ◌∷◌, ◌++◌, option_map, Option, None, Some, true, IsTrue, IfOk, IfNone, IfSome, OnOk};
 ghost use Rattle.std.specs.Option.{option_map_or};
 ghost use Rattle.hd_dbd.specs.Refusals.{OnlyDevice, OnlyDeviceOrMemory};
 ghost use Rattle.hd_volume.specs.Volumes.{block_at};
@@ -16,10 +16,14 @@ ghost use Rattle.hd_check_index.specs.BlockExtents.{AreExtents, IsExtentBelow};
 ghost use Rattle.hd_check_index.specs.Counted.{OfEntries, OfSomeEntries};
 ghost use Rattle.hd_check_index.specs.EntryOrders.{IsLeft, is_below_least, found_with, IsFoundIn, IsLeftBehind, OfEntryAt, OfRow, IsWrongUpTo, IsLeastOf, lesser, standing_at};
 ghost use Rattle.hd_check_index.specs.Judging.{IsFirst, WhereFound};
+ghost use Rattle.hd_check_index.specs.Listed.{AtAddress, AreOrdersListed};
 
 use crate::extents::{Extent, extent_below, extent_between};
+use crate::listed::fault_naming;
 use crate::rows::Standing;
+use hd_check_blocks::{Fault, list_fault};
 use hd_dbd::{Refused, compare_keys};
+use hd_image::Line;
 use hd_index_blocks::{FIRST, IndexBlock};
 use hd_stores::BlockStore;
 use hd_volume::Volume;
@@ -398,4 +402,92 @@ pub fn entry_out_of_order<S: BlockStore>(
         end = start;
     }
     Ok(least)
+}
+
+/// Lists the blocks of a row that have an entry that is not right, each with what the first such entry names; the extents of the blocks are
+/// noted.
+fn list_row<S: BlockStore>(
+    faults: &mut Vec<Fault>,
+    own: &mut Vec<Extent>,
+    volume: &mut Volume<S>,
+    row: &[Standing],
+    level: u8,
+    below: &[Extent],
+    key_length: usize,
+    size: u32,
+) -> Result<(), Refused>
+    requires empty { own.old.items ≡ [] }
+    requires short { key_length ≤ 255 }
+    requires forms { IsTrue volume.old.is_sound → AreFormsRight key_length volume.old }
+    requires level { IsTrue volume.old.is_sound → (i : ℕ) → i < length row.now → level_in volume.old (standing_at row.now i).number ≡ Some level }
+    requires fits { IsTrue volume.old.is_sound → (n l : ℕ) → level_in volume.old n ≡ Some l → n * size < 4294967296 }
+    ensures read { IsRead volume.old result volume.new }
+    ensures own { OnOk result (IsTrue volume.old.is_sound → OfRow (index_blocks key_length volume.old) key_length level row.now below.now (λ c ns. AreExtents key_length c level ns own.new.items)) }
+    ensures faults { OnOk result (IsTrue volume.old.is_sound → OfRow (index_blocks key_length volume.old) key_length level row.now below.now (λ c ns. AreOrdersListed (AtAddress size (IsWrongUpTo c level ns (length ns))) faults.old.items faults.new.items)) }
+    ensures refusal { OnlyDeviceOrMemory result }
+{
+    let mut left = Left {
+        key: [0; 255],
+        is_some: false,
+    };
+    let mut place = 0;
+    for block in row {
+        let rest = &below[place..];
+        let judged = judge_next(
+            own,
+            &mut left,
+            volume,
+            block.number,
+            level,
+            rest,
+            key_length,
+        )?;
+        place = below.len().min(place + judged.count);
+        list_fault(
+            faults,
+            fault_naming(judged.found, Line::EntryOutOfOrder, block.number, size),
+        )?;
+    }
+    Ok(())
+}
+
+/// Lists the index blocks with an entry whose key is not above the one to its left or breaks its bounds, each with what the first such entry
+/// names.
+pub fn list_orders<S: BlockStore>(
+    alloc: Global,
+    faults: &mut Vec<Fault>,
+    volume: &mut Volume<S>,
+    rows: &[Standing],
+    key_length: usize,
+    size: u32,
+) -> Result<(), Refused>
+    requires short { key_length ≤ 255 }
+    requires size { size ≡ volume.old.size }
+    requires forms { IsTrue volume.old.is_sound → AreFormsRight key_length volume.old }
+    requires rows { IsTrue volume.old.is_sound → AreRows key_length volume.old rows.now }
+    requires fits { IsTrue volume.old.is_sound → (n l : ℕ) → level_in volume.old n ≡ Some l → n * size < 4294967296 }
+    ensures read { IsRead volume.old result volume.new }
+    ensures faults { OnOk result (IsTrue volume.old.is_sound → AreOrdersListed (HasEntryOutOfOrder key_length volume.old) faults.old.items faults.new.items) }
+    ensures refusal { OnlyDeviceOrMemory result }
+{
+    let mut below = Vec::new(alloc);
+    let mut end = rows.len();
+    while end > 0 {
+        let start = row_start(rows, end);
+        let first = rows[start];
+        let mut own = Vec::new(alloc);
+        list_row(
+            faults,
+            &mut own,
+            volume,
+            &rows[start..end],
+            first.level,
+            &below,
+            key_length,
+            size,
+        )?;
+        below = own;
+        end = start;
+    }
+    Ok(())
 }

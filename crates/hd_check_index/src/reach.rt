@@ -1,7 +1,12 @@
 //! Phase 10: each index block is reached from the top.
-ghost use Rattle.std.specs.Prelude.{◌≡◌, ◌<◌, ℕ, length, replicate, false, IfOk, IfNone, IfSome};
+ghost use Rattle.std.specs.Prelude.{◌≡◌, ◌≢◌, ◌<◌, ℕ, List, length, replicate, false, IfOk, IfNone, IfSome};
 ghost use Rattle.hd_dbd.specs.Refusals.{OnlyMemory};
+ghost use Rattle.hd_dbd.specs.Hierarchy.{Database};
+ghost use Rattle.hd_volume.specs.Headers.{header_of};
 ghost use Rattle.hd_volume.specs.Volumes.{VolumeState};
+ghost use Rattle.hd_volume.specs.Indexes.{root_key_length};
+ghost use Rattle.hd_image.specs.Records.{IsVolumeOf};
+ghost use Rattle.hd_check_blocks.specs.Listing.{AreStanding};
 ghost use Rattle.hd_index_blocks.specs.Faultless.{AreFormsRight};
 ghost use Rattle.hd_index_blocks.specs.LevelFaults.{IsUnreachedBlock};
 ghost use Rattle.hd_check_index.specs.Tables.{BlocksAscend, AreIndexBlocks};
@@ -11,9 +16,12 @@ ghost use Rattle.hd_check_index.specs.NotedBlocks.{noted_at};
 ghost use Rattle.hd_check_index.specs.Marks.{AreMarkedBefore, mark_at};
 ghost use Rattle.hd_check_index.specs.Standings.{AreMarks, numbers_of};
 
+use crate::listed::fault_unless;
 use crate::rows::Standing;
 use crate::table::{NotedBlock, position_of};
+use hd_check_blocks::{Fault, list_fault};
 use hd_dbd::Refused;
+use hd_image::Line;
 use std::alloc::Global;
 
 /// So many marks, none of them made.
@@ -65,4 +73,43 @@ pub fn unreached(
     let mut marks = no_marks(alloc, blocks.len())?;
     mark_standing(&mut marks, blocks, rows);
     Ok(unmarked(blocks, &marks))
+}
+
+/// All of the blocks that have no mark.
+fn unmarked_faults(
+    alloc: Global,
+    blocks: &[NotedBlock],
+    marks: &[bool],
+    size: u32,
+) -> Result<Vec<Fault>, Refused>
+    requires as_many { length marks.now ≡ length blocks.now }
+    ensures faults { (d : Database) (v : VolumeState) → IsVolumeOf d v → (header_of v.image).version ≢ 1 → AreIndexBlocks v blocks.now → size ≡ v.size
+        → (rows : List Standing) → AreRows (root_key_length d.types) v rows → AreMarks blocks.now (numbers_of rows) marks.now → IfOk result (λ faults. AreStanding d v 10 faults.items) }
+    ensures refusal { OnlyMemory result }
+{
+    let mut faults = Vec::new(alloc);
+    for i in 0..blocks.len() {
+        let block = blocks[i];
+        list_fault(
+            &mut faults,
+            fault_unless(marks[i], Line::UnreachedBlock, block.number, size),
+        )?;
+    }
+    Ok(faults)
+}
+
+/// All blocks of an index set that are in no row.
+pub fn set_reach_faults(
+    alloc: Global,
+    blocks: &[NotedBlock],
+    rows: &[Standing],
+    size: u32,
+) -> Result<Vec<Fault>, Refused>
+    ensures faults { (d : Database) (v : VolumeState) → IsVolumeOf d v → (header_of v.image).version ≢ 1 → AreIndexBlocks v blocks.now → AreRows (root_key_length d.types) v rows.now → size ≡ v.size
+        → IfOk result (λ faults. AreStanding d v 10 faults.items) }
+    ensures refusal { OnlyMemory result }
+{
+    let mut marks = no_marks(alloc, blocks.len())?;
+    mark_standing(&mut marks, blocks, rows);
+    unmarked_faults(alloc, blocks, &marks, size)
 }

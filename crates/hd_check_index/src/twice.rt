@@ -1,5 +1,5 @@
 //! Numbers that stand twice.
-ghost use Rattle.std.specs.Prelude.{◌<◌, ℕ, IfNone, IfSome};
+ghost use Rattle.std.specs.Prelude.{◌≡◌, ◌<◌, ℕ, true, false, IfNone, IfSome};
 ghost use Rattle.std.specs.List.Sorted.{IsNonDecreasing};
 ghost use Rattle.hd_check_index.specs.Marks.{IsTwice};
 
@@ -14,4 +14,18 @@ pub fn first_twice(names: &[u32]) -> Option<u32>
         }
     }
     None
+}
+
+/// Whether a number stands at most once among numbers in order.
+pub fn is_once(names: &[u32], number: u32) -> bool
+    ensures once { IsNonDecreasing names.now → result ≡ true → IsTwice number names.now → ⊥ }
+    ensures twice { IsNonDecreasing names.now → result ≡ false → IsTwice number names.now }
+{
+    let Ok(index) = names.binary_search(&number) else {
+        return true;
+    };
+    if index > 0 && names[index - 1] == number {
+        return false;
+    }
+    index + 1 >= names.len() || names[index + 1] != number
 }

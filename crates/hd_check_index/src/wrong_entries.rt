@@ -14,12 +14,14 @@ ghost use Rattle.hd_prefix.specs.Fields.{bytes_of, IsWhole};
 ghost use Rattle.hd_image.specs.IndexFaults.{names_a_root};
 ghost use Rattle.hd_image.specs.Records.{links_of, IsVolumeOf};
 ghost use Rattle.hd_check_blocks.specs.Phases.{IsLeastOf};
+ghost use Rattle.hd_check_blocks.specs.Listing.{AreStanding};
 ghost use Rattle.hd_check_blocks.specs.Places.{ArePlaces};
 ghost use Rattle.hd_check_index.specs.IndexPhases.{OfCounted, IsSequence, AreNamed, AllNameRoots, first_wrong_in, first_wrong_entry};
 ghost use Rattle.hd_check_blocks.specs.Finding.{WhereNone, WhereSome};
 
+use crate::listed::fault_naming;
 use crate::noted_blocks::block_address;
-use hd_check_blocks::{Directory, Fault, Place, number_near, stored_key};
+use hd_check_blocks::{Directory, Fault, Place, list_fault, number_near, stored_key};
 use hd_dbd::{Dbd, Refused, compare_keys};
 use hd_image::Line;
 use hd_index_blocks::{FIRST, IndexBlock, root_key_length};
@@ -182,4 +184,37 @@ pub fn wrong_entry_fault<S: BlockStore>(
         }
     }
     Ok(None)
+}
+
+/// All of the blocks that bear the index's entries with an entry that names no root of its key, each with what the first such entry names.
+pub fn wrong_entry_faults<S: BlockStore>(
+    alloc: Global,
+    blocks: &[u32],
+    places: &[Place],
+    directory: &Directory,
+    volume: &mut Volume<S>,
+    dbd: &Dbd,
+) -> Result<Vec<Fault>, Refused>
+    requires of { IsTrue volume.old.is_sound → IsVolumeOf dbd.now volume.old }
+    requires places { IsTrue volume.old.is_sound → ArePlaces dbd.now.types volume.old places.now }
+    requires blocks { IsTrue volume.old.is_sound → IsSequence (root_key_length dbd.now.types) volume.old blocks.now }
+    ensures read { IsRead volume.old result volume.new }
+    ensures faults { IfOk result (λ faults. IsTrue volume.old.is_sound → AreStanding dbd.now volume.old 12 faults.items) }
+    ensures refusal { OnlyDeviceOrMemory result }
+{
+    let size = volume.block_size() as u32;
+    let mut near = 0;
+    let mut named = Vec::new(alloc);
+    let mut faults = Vec::new(alloc);
+    for block in blocks {
+        let found = wrong_entry(
+            alloc, &mut named, places, directory, &mut near, volume, dbd, *block,
+        )?;
+        list_fault(
+            &mut faults,
+            fault_naming(found, Line::WrongEntry, *block, size),
+        )?;
+        named.clear();
+    }
+    Ok(faults)
 }

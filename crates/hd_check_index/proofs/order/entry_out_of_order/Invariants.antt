@@ -1,5 +1,6 @@
 use Rattle.std.proofs.Common.{◌≤◌, ℕ, IsTrue, Ok, length}
 use Rattle.hd_volume.specs.Calls.{IsRead}
+use Rattle.hd_check_index.specs.EntryOrders.{IsLeastOf}
 use Rattle.hd_check_index.proofs.RowsUp.{AreJudged}
 use Rattle.hd_check_index.proofs.order.entry_out_of_order.Given as goal
 
@@ -8,7 +9,7 @@ abbrev pub invariant-loop-end : goal.invariant-loop-end
 invariant-loop-end g l = record {
   read : IsRead {T = ℕ} l.fn.volume (Ok 0) l.volume;
   within : l.end ≤ length l.rows;
-  judged : IsTrue l.fn.volume.is_sound → AreJudged l.key_length l.fn.volume l.rows l.end l.below.items l.least;
+  judged : IsTrue l.fn.volume.is_sound → AreJudged l.key_length l.fn.volume l.rows l.end l.below.items (λ P. IsLeastOf P l.least);
 }
 
 abbrev pub decreases-loop-end : goal.decreases-loop-end

@@ -4,7 +4,8 @@ use Rattle.hd_volume.proofs.CallSteps.{read-ok, reads-join}
 use Rattle.hd_index_blocks.specs.IndexSets.{index_blocks}
 use Rattle.hd_check_index.specs.declared.rows.Standing.{Standing}
 use Rattle.hd_check_index.specs.Rows.{row_of}
-use Rattle.hd_check_index.proofs.RowOrders.{forms-same, row-length, row-number, slice-from, seen-read, seen-all}
+use Rattle.hd_check_index.specs.EntryOrders.{IsLeastOf}
+use Rattle.hd_check_index.proofs.RowOrders.{forms-same, row-length, row-number, slice-from, least-notes, seen-read, seen-all}
 use Rattle.hd_check_index.proofs.order.judge_row.Goals as goal
 
 pub judge_next-requires-clause-forms : goal.judge_next-requires-clause-forms
@@ -28,10 +29,11 @@ loop-block-preserved g c =
           let len = row-length c.args.level ns in
           let same : length c.args.row.now ≡ length (row_of c.args.level ns) = ap (λ (t : List Standing). length t) is in
           seen-read c.args.key_length v w c.args.level ns c.loop-block.block-index c.args.below.now c.loop-block.own.items c.judge_next.new.own.items c.loop-block.left c.loop-block.place c.min-place.result
-          c.loop-block.least c.found_at.result c.lesser-least.result c.in_ok-judged.judged.found c.in_ok-judged.judged.extent c.in_ok-judged.judged.count c.judge_next.new.left _ _
-          (row-number c.args.level ns c.args.row.now c.loop-block.block-index _ is less) (slice-from c.args.below.now c.loop-block.place) i.read.call.size (i.read.image now) (omega arith) (i.seen sound ns is h)
+          (λ P. IsLeastOf P c.loop-block.least) (λ P. IsLeastOf P c.lesser-least.result) c.in_ok-judged.judged.found c.in_ok-judged.judged.extent c.in_ok-judged.judged.count c.judge_next.new.left _ _
+          (row-number c.args.level ns c.args.row.now c.loop-block.block-index _ is less) (slice-from c.args.below.now c.loop-block.place) i.read.call.size (i.read.image now) (omega arith)
+          (least-notes _ c.in_ok-judged.judged.found c.loop-block.least c.found_at.result c.lesser-least.result c.found_at.ensures c.lesser-least.ensures) (i.seen sound ns is h)
           (c.in_ok-judged.ensures.found now) (c.in_ok-judged.ensures.left now) (c.in_ok-judged.ensures.extent now) (c.in_ok-judged.ensures.count now)
-          c.in_ok-judged.ensures.own c.min-place.ensures c.found_at.ensures c.lesser-least.ensures);
+          c.in_ok-judged.ensures.own c.min-place.ensures);
     }
 
 pub returns-clause-own : goal.returns-clause-own
@@ -40,7 +42,7 @@ returns-clause-own g c = λ sound ns is h.
     let low = c.loop-block.auto.block-index-end in
     let len = row-length c.args.level ns in
     let same : length c.args.row.now ≡ length (row_of c.args.level ns) = ap (λ (t : List Standing). length t) is in
-    (seen-all c.args.key_length (index_blocks c.args.key_length c.args.volume.now) c.args.level ns c.loop-block.block-index c.args.below.now c.loop-block.own.items c.loop-block.left c.loop-block.place c.loop-block.least
+    (seen-all c.args.key_length (index_blocks c.args.key_length c.args.volume.now) c.args.level ns c.loop-block.block-index c.args.below.now c.loop-block.own.items c.loop-block.left c.loop-block.place (λ P. IsLeastOf P c.loop-block.least)
     (omega arith) (c.loop-block.invariant.seen sound ns is h)).0
 
 pub returns-clause-found : goal.returns-clause-found
@@ -49,5 +51,5 @@ returns-clause-found g c = λ sound ns is h.
     let low = c.loop-block.auto.block-index-end in
     let len = row-length c.args.level ns in
     let same : length c.args.row.now ≡ length (row_of c.args.level ns) = ap (λ (t : List Standing). length t) is in
-    (seen-all c.args.key_length (index_blocks c.args.key_length c.args.volume.now) c.args.level ns c.loop-block.block-index c.args.below.now c.loop-block.own.items c.loop-block.left c.loop-block.place c.loop-block.least
+    (seen-all c.args.key_length (index_blocks c.args.key_length c.args.volume.now) c.args.level ns c.loop-block.block-index c.args.below.now c.loop-block.own.items c.loop-block.left c.loop-block.place (λ P. IsLeastOf P c.loop-block.least)
     (omega arith) (c.loop-block.invariant.seen sound ns is h)).1

@@ -4,6 +4,7 @@ use Rattle.hd_index_blocks.specs.Levels.{across}
 use Rattle.hd_index_blocks.specs.IndexSets.{index_blocks}
 use Rattle.hd_check_index.specs.Rows.{row_of}
 use Rattle.hd_check_index.specs.BlockExtents.{AreBelow}
+use Rattle.hd_check_index.specs.EntryOrders.{IsLeastOf}
 use Rattle.hd_check_index.proofs.RowOrders.{IsSeen}
 use Rattle.hd_check_index.proofs.order.judge_row.Given as goal
 
@@ -14,5 +15,5 @@ invariant-loop-block g l = record {
   within : l.place ≤ length l.below;
   seen : IsTrue l.fn.volume.is_sound → (ns : List ℕ) → l.row ≡ row_of l.level ns
       → AreBelow l.key_length (index_blocks l.key_length l.fn.volume) l.level (across (index_blocks l.key_length l.fn.volume) ns) l.below
-      → IsSeen l.key_length (index_blocks l.key_length l.fn.volume) l.level ns l.block-index l.below l.own.items l.left l.place l.least;
+      → IsSeen l.key_length (index_blocks l.key_length l.fn.volume) l.level ns l.block-index l.below l.own.items l.left l.place (λ P. IsLeastOf P l.least);
 }
