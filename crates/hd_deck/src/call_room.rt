@@ -54,7 +54,9 @@ fn texts_with_room(alloc: Global, count: usize, bytes: usize) -> Result<Vec<Vec<
 
 impl CallRoom {
     /// Room in which each call of the steps can be made, the steps being all of a deck, or some that follow each other in it.
-    pub fn new(alloc: Global, steps: &[Step<'_>]) -> Result<CallRoom, AllocError> {
+    pub fn new(alloc: Global, steps: &[Step<'_>]) -> Result<CallRoom, AllocError>
+        ensures { IfOk result (λ r. r ≡ call_in []) }
+    {
         let (arguments, bytes) = most_of(steps);
         Ok(CallRoom {
             alloc,

@@ -13,7 +13,8 @@ use hd_session::{Answer, Call, IoArea, Session};
 use hd_stores::BlockStore;
 use std::io::Write;
 
-/// Why the calls in a session stopped early: an access of the store failed, or a write.
+/// Why the calls in a session stopped early: an access of the store failed, or a write. A call that finds no room for itself stops them like a failed write,
+/// before it is made.
 #[derive(Clone, Copy, Debug, Drop, PartialEq, Eq)]
 pub(crate) enum Stop {
     Device,

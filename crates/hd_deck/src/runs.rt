@@ -27,7 +27,7 @@ pub enum RunFault {
     Memory,
     /// An access of the store failed.
     Device,
-    /// A line could not be written. The calls that were made are in the store.
+    /// A line could not be written, or a call found no room although it was taken before the first. The calls that were made are in the store.
     Write,
 }
 
