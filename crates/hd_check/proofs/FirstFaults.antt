@@ -1,5 +1,5 @@
 -- Faults of the first phase that finds any.
-use Rattle.std.proofs.Common.{◌≡◌, ◌⊎◌, inl, inr, ℕ, ◌<◌, ◌+◌, ◌*◌, ◌≤◌, List, [], ◌∷◌, length, true, IsTrue, Option, Some, None, IfSome, refl, sym, ap, subst, ◌∙◌, arith}
+use Rattle.std.proofs.Common.{◌≡◌, ◌≢◌, ◌⊎◌, inl, inr, ℕ, ◌<◌, ◌+◌, ◌*◌, ◌≤◌, List, [], ◌∷◌, length, true, IsTrue, Option, Some, None, IfSome, refl, sym, ap, subst, ◌∙◌, arith}
 use Rattle.std.specs.Prelude.{is_some}
 use Rattle.std.proofs.lemmas.Bool.{cases_lt}
 use Rattle.hd_bytes.specs.Blocks.{HasBlock}
@@ -63,7 +63,7 @@ module _ (d : Database) (v : VolumeState) (p : ℕ) (before : NoneBefore d v p) 
     least = begins f fs least all;
     stand = all.stand;
     ascend = all.ascend;
-    all = λ low there. all;
+    all = λ there. all;
   }
 
   -- if a fault of it was found
@@ -71,21 +71,22 @@ module _ (d : Database) (v : VolumeState) (p : ℕ) (before : NoneBefore d v p) 
   faults-found None fs is least all = cc
   faults-found (Some f) fs is least all = first-faults f fs least all
 
+-- all faults of a phase that are listed, where some are
+pub listed-first : (d : Database) (v : VolumeState) (p : ℕ) (fs : List Fault) → NoneBefore d v p → AreStanding d v p fs → fs ≢ [] → AreFirstFaults d v fs
+listed-first d v p [] before all some = absurd (some refl)
+listed-first d v p (f ∷ fs) before all some = first-faults d v p before f (f ∷ fs) (record {
+  of = all.stand.0;
+  stands = all.stand.1;
+  least = λ k a o is s less. elim (all.all k a o is s) [
+    | inl e ↦ not-itself k f.line a f.address e.0 e.1 less
+    | inr i ↦ not-both k f.line a f.address less (behind f fs k a all.ascend.0 i)
+  ];
+}) all
+
 -- what is said of what was found, where something was
 pub from-some : {A : Type 0} {P : Type 0} (o : Option A) → is_some o ≡ true → IfSome o (λ x. P) → P
 from-some None is h = cc
 from-some (Some x) is h = h
-
--- the least fault alone
-pub one-first : (d : Database) (v : VolumeState) (f : Fault) → NoneBefore d v 8 → IsFirstFault d v f → AreFirstFaults d v (f ∷ [])
-one-first d v f before first = record {
-  phase = phase_of f.line;
-  before = λ k a o less s. first.least k a o s (inl less);
-  least = first;
-  stand = (refl, first.stands, tt);
-  ascend = (tt, tt);
-  all = λ low there. absurd (before f.line f.address f.other low first.stands);
-}
 
 -- that there is no first block
 pub short-first : (d : Database) (v : VolumeState) → v.size ≡ d.block_size → (HasBlock v.size v.image 0 → ⊥) → AreFirstFaults d v (record { line = NoVolume; address = 0; other = 0 } ∷ [])
@@ -98,7 +99,7 @@ short-first d v size none =
       least = first-of d v 1 (record { line = NoVolume; address = 0; other = 0 }) (none-first d v) least;
       stand = (refl, least.stands, tt);
       ascend = (tt, tt);
-      all = λ low there. absurd (none there);
+      all = λ there. absurd (none there);
     }
 
 -- what is wrong with the header is first
@@ -133,7 +134,7 @@ module _ (u v : VolumeState) (e : IsOne u v) (d : Database) where
     least = begins-same fs h.least;
     stand = all-stand-same h.phase fs h.stand;
     ascend = h.ascend;
-    all = λ low there. standing-same h.phase fs (h.all low (subst (λ (s : ℕ). HasBlock s u.image 0) e.size (subst (λ (i : List ℕ). HasBlock v.size i 0) e.image there)));
+    all = λ there. standing-same h.phase fs (h.all (subst (λ (s : ℕ). HasBlock s u.image 0) e.size (subst (λ (i : List ℕ). HasBlock v.size i 0) e.image there)));
   }
 
 -- the first block is there in each state

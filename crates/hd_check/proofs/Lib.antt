@@ -7,3 +7,4 @@ pub mod LevelPhases
 pub mod NotedSequence
 pub mod LevelsFound
 pub mod FirstFaults
+pub mod IndexLists

@@ -1,12 +1,11 @@
 -- What a check of all faults lists.
-use Rattle.std.specs.Prelude.{◌≡◌, ℕ, ◌<◌, List, [], ◌∷◌}
+use Rattle.std.specs.Prelude.{ℕ, List, [], ◌∷◌}
 use Rattle.hd_bytes.specs.Blocks.{HasBlock}
 use Rattle.hd_dbd.specs.Hierarchy.{Database}
 use Rattle.hd_dbd.specs.Forest.{Forest}
 use Rattle.hd_volume.specs.Volumes.{VolumeState}
 use Rattle.hd_links.specs.Placed.{Placed}
 use Rattle.hd_image.specs.Holding.{HoldsPlaced}
-use Rattle.hd_image.specs.Standing.{phase_of}
 use Rattle.hd_check_blocks.specs.declared.fault.Fault.{Fault}
 use Rattle.hd_check_blocks.specs.Listing.{AllStand, FaultsAscend, AreStanding}
 use Rattle.hd_check.specs.Joining.{NoneBefore, IsFirstFault}
@@ -16,15 +15,14 @@ abbrev pub BeginsWith : (Fault → Type 0) → List Fault → Type 0
 BeginsWith P [] = ⊥
 BeginsWith P (f ∷ fs) = P f
 
--- These are faults of one phase in their order, the least of all first. They are all of it, but where the volume has no first block; of a phase from
--- the eighth on only the least is sure to be among them.
+-- These are faults of one phase in their order, the least of all first. They are all of it, but where the volume has no first block.
 pub record AreFirstFaults (d : Database) (v : VolumeState) (faults : List Fault) : Type 0 where
   pub phase : ℕ
   pub before : NoneBefore d v phase
   pub least : BeginsWith (λ f. IsFirstFault d v f) faults
   pub stand : AllStand d v phase faults
   pub ascend : FaultsAscend faults
-  pub all : phase < 8 → HasBlock v.size v.image 0 → AreStanding d v phase faults
+  pub all : HasBlock v.size v.image 0 → AreStanding d v phase faults
 
 -- No fault is listed, and the volume holds a forest; or the first faults are listed, and it holds none.
 abbrev pub AreFaultsOf : Database → VolumeState → List Fault → Type 0

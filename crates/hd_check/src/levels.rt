@@ -241,7 +241,7 @@ fn note_low(sequence: &mut Vec<u32>, block: NotedBlock) -> Result<(), Refused>
 }
 
 /// Notes the blocks of the sequence set, in order of their numbers.
-fn note_sequence(sequence: &mut Vec<u32>, blocks: &[NotedBlock]) -> Result<(), Refused>
+pub fn note_sequence(sequence: &mut Vec<u32>, blocks: &[NotedBlock]) -> Result<(), Refused>
     requires empty { sequence.old.items ≡ [] }
     ensures value { OnOk result ((k : ℕ) (v : VolumeState) → AreIndexBlocks v blocks.now → (header_of v.image).version ≢ 1 → SetIsFormed k v → IsSequence k v sequence.new.items) }
     ensures refusal { OnlyMemory result }

@@ -4,6 +4,7 @@
 #![tactic(auto)]
 
 mod checks;
+mod index_lists;
 mod levels;
 mod lists;
 mod phases;

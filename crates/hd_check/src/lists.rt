@@ -5,18 +5,16 @@ ghost use Rattle.hd_dbd.specs.Facts.{stored_sizes};
 ghost use Rattle.hd_dbd.specs.DatabaseRules.{well_formed};
 ghost use Rattle.hd_volume.specs.Calls.{IsRead};
 ghost use Rattle.hd_links.specs.Pointers.{AreLinked};
-ghost use Rattle.hd_volume.specs.Indexes.{root_key_length};
 ghost use Rattle.hd_image.specs.Records.{links_of};
-ghost use Rattle.hd_image.specs.Right.{IndexIsFormed, EntriesAreRight};
 ghost use Rattle.hd_check_pointers.specs.Tables.{AreForwards, ArePredecessors};
 ghost use Rattle.hd_check_pointers.specs.Matched.{IsMatched};
 ghost use Rattle.hd_check_blocks.specs.Finding.{WhereNone, WhereSome};
 ghost use Rattle.hd_check.specs.Joining.{NoneBefore, HasRightBlocks, IsFoundRight};
 ghost use Rattle.hd_check.specs.Lists.{AreFirstFaults, AreFaultsOf};
 
-use crate::phases::index_fault;
+use crate::index_lists::index_faults;
 use hd_check_blocks::{
-    Directory, Fault, Place, blocks_fault, blocks_faults, header_fault, header_faults, list_fault,
+    Directory, Fault, Place, blocks_fault, blocks_faults, header_fault, header_faults,
 };
 use hd_check_pointers::{
     Naming, owners_of, predecessors_fault, predecessors_faults, reached_fault, reached_faults,
@@ -122,31 +120,6 @@ fn pointers_faults<S: BlockStore>(
     twin_chains_faults(alloc, places, directory, &namings, &forwards, volume, dbd)
 }
 
-/// The least fault of the index, alone, if one stands.
-fn index_faults<S: BlockStore>(
-    alloc: Global,
-    places: &[Place],
-    directory: &Directory,
-    volume: &mut Volume<S>,
-    dbd: &Dbd,
-) -> Result<Option<Vec<Fault>>, Refused>
-    requires right { IsTrue volume.old.is_sound → HasRightBlocks dbd.now volume.old places.now }
-    requires before { IsTrue volume.old.is_sound → NoneBefore dbd.now volume.old 8 }
-    ensures read { IsRead volume.old result volume.new }
-    ensures none { WhereNone volume.old result (IndexIsFormed (root_key_length dbd.now.types) volume.old × EntriesAreRight dbd.now volume.old) }
-    ensures some { WhereSome volume.old result (λ l. AreFirstFaults dbd.now volume.old l.items) }
-    ensures refusal { OnlyDeviceOrMemory result }
-{
-    match index_fault(alloc, places, directory, volume, dbd)? {
-        None => Ok(None),
-        Some(fault) => {
-            let mut faults = Vec::new(alloc);
-            list_fault(&mut faults, Some(fault))?;
-            Ok(Some(faults))
-        }
-    }
-}
-
 /// The faults of the first phase that finds any; where none does, the segments are noted.
 fn first_faults<S: BlockStore>(
     alloc: Global,
@@ -175,8 +148,8 @@ fn first_faults<S: BlockStore>(
     index_faults(alloc, places, &directory, volume, dbd)
 }
 
-/// All faults of a volume that are listed: those of the first phase that finds any, none where the volume holds a forest of its database. From the
-/// eighth phase on the least is listed alone. No byte is changed.
+/// All faults of a volume that are listed: those of the first phase that finds any, none where the volume holds a forest of its database. No byte is
+/// changed.
 pub fn all_faults<S: BlockStore>(
     alloc: Global,
     volume: &mut Volume<S>,
