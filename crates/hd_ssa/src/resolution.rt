@@ -258,7 +258,11 @@ fn types_suit(function: Function, dbd: &Dbd, heads: &[Named<'_>], codes: &[u8]) 
 }
 
 /// One argument with its type, its qualification read where it has one.
-pub(crate) fn read_ssa<'a>(dbd: &'a Dbd, code: u8, head: &Named<'a>) -> Result<ResolvedSsa<'a>, Status>
+pub(crate) fn read_ssa<'a>(
+    dbd: &'a Dbd,
+    code: u8,
+    head: &Named<'a>,
+) -> Result<ResolvedSsa<'a>, Status>
     ensures { (s : Setting) → s.types ≡ dbd.now.types → result ≡ read_ssa s code head.now.head }
 {
     let qualification = match head.qualification {
