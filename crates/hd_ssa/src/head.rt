@@ -1,12 +1,10 @@
 ghost use Rattle.std.specs.Prelude.{◌≡◌, ◌≤◌, length};
-ghost use Rattle.std.specs.Option.{ok_or};
 ghost use Rattle.std.specs.List.{prefix_len};
-ghost use Rattle.hd_dbd.specs.declared.answer.Status.TheVariants.{AJ};
-ghost use Rattle.hd_calls.specs.Ssas.{is_command, has_byte, commands_among, commands_length, head_ending, read_head};
+ghost use Rattle.hd_calls.specs.Ssas.{is_command, has_byte, commands_among, commands_length, head_ending};
 ghost use Rattle.hd_ssa.specs.AtOnce.{head_with_name};
 
 use hd_calls::Commands;
-use hd_dbd::{Name8, Status};
+use hd_dbd::Name8;
 use std::marker::Model;
 
 /// The head of a segment search argument: the segment's name and the command codes, with all that stands behind the opening bracket,
@@ -28,25 +26,7 @@ impl<'a> Model for Ssa<'a> {
 }
 
 impl<'a> Ssa<'a> {
-    /// The head with which the bytes begin; AJ where they begin with none. Nothing behind a blank or an opening bracket is judged.
-    pub fn read(bytes: &'a [u8]) -> Result<Ssa<'a>, Status>
-        ensures { result ≡ ok_or (read_head bytes.now) AJ }
-    {
-        match Ssa::head_of(bytes) {
-            Some(head) => Ok(head),
-            None => Err(Status::AJ),
-        }
-    }
-
-    /// The head with which the bytes begin, if they do.
-    pub(crate) fn head_of(bytes: &'a [u8]) -> Option<Ssa<'a>>
-        ensures { result ≡ read_head bytes.now }
-    {
-        let (name, behind) = bytes.split_first_chunk::<8>()?;
-        Ssa::with_name(Name8::from_padded(*name)?, behind)
-    }
-
-    /// The head of this name, with what stands behind the name, where it is one.
+    /// The head of this name, with what stands behind the name, where it is one. Nothing behind a blank or an opening bracket is judged.
     pub(crate) fn with_name(name: Name8, behind: &'a [u8]) -> Option<Ssa<'a>>
         ensures { result ≡ head_with_name name behind.now }
     {

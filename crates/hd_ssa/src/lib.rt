@@ -11,5 +11,4 @@ mod question;
 mod resolution;
 
 pub use fault::SsaFault;
-pub use head::Ssa;
 pub use resolution::{Resolved, ResolvedSsa, loads, resolve};
