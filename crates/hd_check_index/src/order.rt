@@ -16,14 +16,10 @@ ghost use Rattle.hd_check_index.specs.BlockExtents.{AreExtents, IsExtentBelow};
 ghost use Rattle.hd_check_index.specs.Counted.{OfEntries, OfSomeEntries};
 ghost use Rattle.hd_check_index.specs.EntryOrders.{IsLeft, is_below_least, found_with, IsFoundIn, IsLeftBehind, OfEntryAt, OfRow, IsWrongUpTo, IsLeastOf, lesser, standing_at};
 ghost use Rattle.hd_check_index.specs.Judging.{IsFirst, WhereFound};
-ghost use Rattle.hd_check_index.specs.Listed.{AtAddress, AreOrdersListed};
 
 use crate::extents::{Extent, extent_below, extent_between};
-use crate::listed::fault_naming;
-use crate::rows::Standing;
-use hd_check_blocks::{Fault, list_fault};
+use crate::rows::{Standing, row_start};
 use hd_dbd::{Refused, compare_keys};
-use hd_image::Line;
 use hd_index_blocks::{FIRST, IndexBlock};
 use hd_stores::BlockStore;
 use hd_volume::Volume;
@@ -31,9 +27,9 @@ use std::alloc::Global;
 
 /// The key of the entry to the left, at the front, if there is one.
 #[derive(Clone, Copy)]
-struct Left {
-    key: [u8; 255],
-    is_some: bool,
+pub struct Left {
+    pub key: [u8; 255],
+    pub is_some: bool,
 }
 
 /// Whether a key is above that of the entry to its left, if there is one.
@@ -129,10 +125,10 @@ fn wrong_in(left: &mut Left, block: &IndexBlock, level: u8, below: &[Extent]) ->
 
 /// What is found in a block, its extent, and how many entries it has.
 #[derive(Clone, Copy)]
-struct Judged {
-    found: Option<u32>,
-    extent: Extent,
-    count: usize,
+pub struct Judged {
+    pub found: Option<u32>,
+    pub extent: Extent,
+    pub count: usize,
 }
 
 /// Whether a key is less than another of its length: the first byte that differs decides.
@@ -255,7 +251,7 @@ fn judge_block<S: BlockStore>(
 }
 
 /// Reads and judges a block of a level, and notes its extent.
-fn judge_next<S: BlockStore>(
+pub fn judge_next<S: BlockStore>(
     own: &mut Vec<Extent>,
     left: &mut Left,
     volume: &mut Volume<S>,
@@ -346,26 +342,6 @@ fn judge_row<S: BlockStore>(
     Ok(least)
 }
 
-/// Where the row begins that ends at an index.
-fn row_start(rows: &[Standing], end: usize) -> usize
-    requires some { 0 < end }
-    requires within { end ≤ length rows.now }
-    ensures before { result < end }
-    ensures same { (i : ℕ) → result ≤ i → i < end → (standing_at rows.now i).level ≡ (standing_at rows.now (end - 1)).level }
-    ensures other { (result ≡ 0) ⊎ ((standing_at rows.now (result - 1)).level ≢ (standing_at rows.now (end - 1)).level) }
-{
-    let last = rows[end - 1];
-    let mut start = end - 1;
-    while start > 0 {
-        let block = rows[start - 1];
-        if block.level != last.level {
-            return start;
-        }
-        start -= 1;
-    }
-    start
-}
-
 /// The first index block with an entry whose key is not above the one to its left or breaks its bounds, and what the first such entry
 /// of the block names.
 pub fn entry_out_of_order<S: BlockStore>(
@@ -402,92 +378,4 @@ pub fn entry_out_of_order<S: BlockStore>(
         end = start;
     }
     Ok(least)
-}
-
-/// Lists the blocks of a row that have an entry that is not right, each with what the first such entry names; the extents of the blocks are
-/// noted.
-fn list_row<S: BlockStore>(
-    faults: &mut Vec<Fault>,
-    own: &mut Vec<Extent>,
-    volume: &mut Volume<S>,
-    row: &[Standing],
-    level: u8,
-    below: &[Extent],
-    key_length: usize,
-    size: u32,
-) -> Result<(), Refused>
-    requires empty { own.old.items ≡ [] }
-    requires short { key_length ≤ 255 }
-    requires forms { IsTrue volume.old.is_sound → AreFormsRight key_length volume.old }
-    requires level { IsTrue volume.old.is_sound → (i : ℕ) → i < length row.now → level_in volume.old (standing_at row.now i).number ≡ Some level }
-    requires fits { IsTrue volume.old.is_sound → (n l : ℕ) → level_in volume.old n ≡ Some l → n * size < 4294967296 }
-    ensures read { IsRead volume.old result volume.new }
-    ensures own { OnOk result (IsTrue volume.old.is_sound → OfRow (index_blocks key_length volume.old) key_length level row.now below.now (λ c ns. AreExtents key_length c level ns own.new.items)) }
-    ensures faults { OnOk result (IsTrue volume.old.is_sound → OfRow (index_blocks key_length volume.old) key_length level row.now below.now (λ c ns. AreOrdersListed (AtAddress size (IsWrongUpTo c level ns (length ns))) faults.old.items faults.new.items)) }
-    ensures refusal { OnlyDeviceOrMemory result }
-{
-    let mut left = Left {
-        key: [0; 255],
-        is_some: false,
-    };
-    let mut place = 0;
-    for block in row {
-        let rest = &below[place..];
-        let judged = judge_next(
-            own,
-            &mut left,
-            volume,
-            block.number,
-            level,
-            rest,
-            key_length,
-        )?;
-        place = below.len().min(place + judged.count);
-        list_fault(
-            faults,
-            fault_naming(judged.found, Line::EntryOutOfOrder, block.number, size),
-        )?;
-    }
-    Ok(())
-}
-
-/// Lists the index blocks with an entry whose key is not above the one to its left or breaks its bounds, each with what the first such entry
-/// names.
-pub fn list_orders<S: BlockStore>(
-    alloc: Global,
-    faults: &mut Vec<Fault>,
-    volume: &mut Volume<S>,
-    rows: &[Standing],
-    key_length: usize,
-    size: u32,
-) -> Result<(), Refused>
-    requires short { key_length ≤ 255 }
-    requires size { size ≡ volume.old.size }
-    requires forms { IsTrue volume.old.is_sound → AreFormsRight key_length volume.old }
-    requires rows { IsTrue volume.old.is_sound → AreRows key_length volume.old rows.now }
-    requires fits { IsTrue volume.old.is_sound → (n l : ℕ) → level_in volume.old n ≡ Some l → n * size < 4294967296 }
-    ensures read { IsRead volume.old result volume.new }
-    ensures faults { OnOk result (IsTrue volume.old.is_sound → AreOrdersListed (HasEntryOutOfOrder key_length volume.old) faults.old.items faults.new.items) }
-    ensures refusal { OnlyDeviceOrMemory result }
-{
-    let mut below = Vec::new(alloc);
-    let mut end = rows.len();
-    while end > 0 {
-        let start = row_start(rows, end);
-        let first = rows[start];
-        let mut own = Vec::new(alloc);
-        list_row(
-            faults,
-            &mut own,
-            volume,
-            &rows[start..end],
-            first.level,
-            &below,
-            key_length,
-            size,
-        )?;
-        below = own;
-        end = start;
-    }
-    Ok(())
 }

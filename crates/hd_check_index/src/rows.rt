@@ -1,5 +1,5 @@
 //! The rows of an index set, from the top down.
-ghost use Rattle.std.specs.Prelude.{◌≡◌, ◌≤◌, ◌++◌, [], suc, length, IsTrue, OnOk};
+ghost use Rattle.std.specs.Prelude.{◌≡◌, ◌≢◌, ◌⊎◌, ℕ, ◌-◌, ◌≤◌, ◌<◌, ◌++◌, [], suc, length, IsTrue, OnOk};
 ghost use Rattle.hd_dbd.specs.Refusals.{OnlyDeviceOrMemory, OnlyMemory};
 ghost use Rattle.hd_volume.specs.Headers.{header_of};
 ghost use Rattle.hd_volume.specs.Volumes.{IsKind};
@@ -10,6 +10,7 @@ ghost use Rattle.hd_index_blocks.specs.Faultless.{AreFormsRight};
 ghost use Rattle.hd_check_index.specs.Rows.{row_of, AreRows};
 ghost use Rattle.hd_check_index.specs.Standings.{all_rows, AreNotedTo};
 ghost use Rattle.hd_check_index.specs.Counted.{OfEntries, OfFitting};
+ghost use Rattle.hd_check_index.specs.EntryOrders.{standing_at};
 
 use hd_dbd::Refused;
 use hd_index_blocks::{FIRST, IndexBlock};
@@ -118,4 +119,24 @@ pub fn rows_down<S: BlockStore>(
         from = to;
     }
     Ok(())
+}
+
+/// Where the row begins that ends at an index.
+pub fn row_start(rows: &[Standing], end: usize) -> usize
+    requires some { 0 < end }
+    requires within { end ≤ length rows.now }
+    ensures before { result < end }
+    ensures same { (i : ℕ) → result ≤ i → i < end → (standing_at rows.now i).level ≡ (standing_at rows.now (end - 1)).level }
+    ensures other { (result ≡ 0) ⊎ ((standing_at rows.now (result - 1)).level ≢ (standing_at rows.now (end - 1)).level) }
+{
+    let last = rows[end - 1];
+    let mut start = end - 1;
+    while start > 0 {
+        let block = rows[start - 1];
+        if block.level != last.level {
+            return start;
+        }
+        start -= 1;
+    }
+    start
 }

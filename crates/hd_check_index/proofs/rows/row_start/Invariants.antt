@@ -1,6 +1,6 @@
 use Rattle.std.proofs.Common.{◌≡◌, ◌-◌, ℕ, ◌<◌, ◌≤◌}
 use Rattle.hd_check_index.specs.EntryOrders.{standing_at}
-use Rattle.hd_check_index.proofs.order.row_start.Given as goal
+use Rattle.hd_check_index.proofs.rows.row_start.Given as goal
 
 -- the blocks from here on are of one level
 abbrev pub invariant-loop-start : goal.invariant-loop-start

@@ -6,7 +6,7 @@ use Rattle.hd_check_index.specs.Listed.{AtAddress, AreOrdersListed}
 use Rattle.hd_check_index.proofs.RowOrders.{forms-same, level-same}
 use Rattle.hd_check_index.proofs.RowsUp.{AreJudged, judged-none, next-row, next-levels, judged-read, judged-all}
 use Rattle.hd_check_index.proofs.RowLists.{at-keeps, listed-none, listed-joins, all-orders}
-use Rattle.hd_check_index.proofs.order.list_orders.Goals as goal
+use Rattle.hd_check_index.proofs.set_orders.list_orders.Goals as goal
 
 pub loop-end-init : goal.loop-end-init
 loop-end-init g c = record {

@@ -2,7 +2,7 @@ use Rattle.std.proofs.Common.{◌≤◌, ℕ, IsTrue, Ok, length}
 use Rattle.hd_volume.specs.Calls.{IsRead}
 use Rattle.hd_check_index.specs.Listed.{AtAddress, AreOrdersListed}
 use Rattle.hd_check_index.proofs.RowsUp.{AreJudged}
-use Rattle.hd_check_index.proofs.order.list_orders.Given as goal
+use Rattle.hd_check_index.proofs.set_orders.list_orders.Given as goal
 
 -- the rows behind are judged, and what is out of order in them is listed
 abbrev pub invariant-loop-end : goal.invariant-loop-end

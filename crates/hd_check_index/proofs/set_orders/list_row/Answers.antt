@@ -8,7 +8,7 @@ use Rattle.hd_check_index.specs.Listed.{AtAddress, AreOrdersListed}
 use Rattle.hd_check_index.proofs.RowOrders.{forms-same, row-length, row-number, slice-from, seen-read, seen-all}
 use Rattle.hd_check_index.proofs.PassedBlocks.{one-more}
 use Rattle.hd_check_index.proofs.RowLists.{listed-notes}
-use Rattle.hd_check_index.proofs.order.list_row.Goals as goal
+use Rattle.hd_check_index.proofs.set_orders.list_row.Goals as goal
 
 pub judge_next-requires-clause-forms : goal.judge_next-requires-clause-forms
 judge_next-requires-clause-forms g c = λ now.

@@ -6,7 +6,7 @@ use Rattle.hd_check_index.specs.Rows.{row_of}
 use Rattle.hd_check_index.specs.BlockExtents.{AreBelow}
 use Rattle.hd_check_index.specs.Listed.{AtAddress, AreOrdersListed}
 use Rattle.hd_check_index.proofs.RowOrders.{IsSeen}
-use Rattle.hd_check_index.proofs.order.list_row.Given as goal
+use Rattle.hd_check_index.proofs.set_orders.list_row.Given as goal
 
 -- the blocks before are judged, and what is out of order in them is listed
 abbrev pub invariant-loop-block : goal.invariant-loop-block
