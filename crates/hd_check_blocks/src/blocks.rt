@@ -21,6 +21,7 @@ use crate::places::Place;
 use crate::wrong_place::wrong_place;
 use hd_dbd::{Dbd, Refused, SegmentSize};
 use hd_image::Line;
+use hd_output::Work;
 use hd_stores::BlockStore;
 use hd_volume::{DATA, FREE, INDEX, MOST_BLOCKS, Volume, size_table};
 use std::alloc::Global;
@@ -121,7 +122,9 @@ pub fn blocks_fault<S: BlockStore>(
     };
     let count = volume.block_count().min(MOST_BLOCKS);
     let size = volume.block_size();
+    volume.begin_work(u64::from(count), Work::Blocks);
     for n in 1..count {
+        volume.work_done(1);
         match stored_block_fault(places, volume, dbd, &sizes, n, size)? {
             None => {}
             Some(fault) => return Ok(Some(fault)),

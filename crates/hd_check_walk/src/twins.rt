@@ -290,6 +290,7 @@ pub fn walk_twins<S: BlockStore>(
         let Some(step) = found else {
             return Ok(None);
         };
+        volume.work_done(1);
         before = step.twin;
         next = step.forward;
         near = guide.behind(step.number);

@@ -19,6 +19,7 @@ use crate::twins::{NOBODY, walk_twins};
 use hd_check_blocks::{Directory, Place};
 use hd_check_pointers::{LastKey, no_key};
 use hd_dbd::{Dbd, Refused};
+use hd_output::Work;
 use hd_stores::BlockStore;
 use hd_volume::Volume;
 use std::alloc::Global;
@@ -213,6 +214,7 @@ fn walk_volume<S: BlockStore>(
         directory,
         twins: &twins,
     };
+    volume.begin_work(places.len() as u64, Work::Segments);
     let mut holders = unheld(alloc, places.len())?;
     let mut waiting: Vec<usize> = Vec::new(alloc);
     let mut last = no_key();

@@ -3,11 +3,11 @@ ghost use Rattle.std.specs.Io.{WritesAtMost};
 ghost use Rattle.std.specs.Io.KnownBytes.{Keeps, Appends, WriteAppends};
 ghost use Rattle.hd_output.specs.Counts.{ends_line, answered_with};
 
-use crate::progress::Progress;
+use crate::progress::{Progress, Work};
 use std::io::{self, Write};
 use std::marker::Model;
 
-/// A writer to the lines of calls, which passes all bytes on to another, counts the lines, and tells of each how many calls were answered by then.
+/// A writer to the lines of calls, which passes all bytes on to another, counts the lines, and tells from the first on how many of the calls are answered.
 ///
 /// A line ends with a write that ends in a line feed; no other write ends in one.
 #[derive(Drop)]
@@ -52,8 +52,11 @@ impl<'p, W: Write, P: Progress> Answers<'p, W, P> {
         ensures { self.new ≡ record { inner = self.old.inner; answered = answered_with bytes.now self.old.answered } }
     {
         if ends_line(bytes) {
+            if self.answered == 0 {
+                self.progress.begin(self.calls, Work::Calls);
+            }
             self.answered = self.answered.saturating_add(1);
-            self.progress.answered(self.answered, self.calls);
+            self.progress.done(1);
         }
     }
 }

@@ -10,6 +10,6 @@ mod unmixed;
 
 pub use answers::Answers;
 pub use pieces::Pieces;
-pub use progress::{Progress, Silent};
+pub use progress::{Progress, Silent, Work};
 pub use terminal::Terminal;
 pub use unmixed::Unmixed;

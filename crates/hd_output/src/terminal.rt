@@ -1,4 +1,4 @@
-use crate::progress::Progress;
+use crate::progress::{Progress, Work};
 use std::alloc::{AllocError, Global};
 use std::cell::Cell;
 use std::io::Write;
@@ -23,8 +23,9 @@ pub struct Terminal<'c, C: Clock, T: Write + Copy + Drop> {
     start: Option<Instant>,
     has_output: bool,
     due: Cell<u64>,
-    answered: Cell<u64>,
-    calls: Cell<u64>,
+    done: Cell<u64>,
+    all: Cell<u64>,
+    work: Cell<Work>,
     is_shown: Cell<bool>,
 }
 
@@ -50,8 +51,9 @@ impl<'c, C: Clock, T: Write + Copy + Drop> Terminal<'c, C, T> {
             start,
             has_output,
             due: Cell::new(FIRST),
-            answered: Cell::new(0),
-            calls: Cell::new(0),
+            done: Cell::new(0),
+            all: Cell::new(0),
+            work: Cell::new(Work::Blocks),
             is_shown: Cell::new(false),
         }
     }
@@ -81,7 +83,7 @@ impl<'c, C: Clock, T: Write + Copy + Drop> Progress for Terminal<'c, C, T> {
         if !self.is_due() {
             return;
         }
-        let share = share_of(self.alloc, self.answered.get(), self.calls.get());
+        let share = share_of(self.alloc, self.done.get(), self.all.get(), self.work.get());
         if let Ok(line) = line_of(self.alloc, doing, share, accesses, blocks) {
             let mut screen = self.screen;
             self.is_shown.set(true);
@@ -89,10 +91,15 @@ impl<'c, C: Clock, T: Write + Copy + Drop> Progress for Terminal<'c, C, T> {
         }
     }
 
+    fn begin(&self, all: u64, work: Work) {
+        self.done.set(0);
+        self.all.set(all);
+        self.work.set(work);
+    }
+
     #[inline(always)]
-    fn answered(&self, answered: u64, calls: u64) {
-        self.answered.set(answered);
-        self.calls.set(calls);
+    fn done(&self, count: u64) {
+        self.done.set(self.done.get().saturating_add(count));
     }
 
     fn end(&self) {
@@ -125,14 +132,25 @@ fn line_of(
     format!(in alloc; "\r{doing}: {share}{accesses} accesses to {blocks} blocks\x1b[K")
 }
 
-/// How many of all calls were answered, in front of the accesses; nothing before the first was.
-fn share_of(alloc: Global, answered: u64, calls: u64) -> Result<String, AllocError> {
-    if calls == 0 {
+/// The name of what work is counted in.
+fn name_of(work: Work) -> &'static str {
+    match work {
+        Work::Blocks => "blocks",
+        Work::Bytes => "bytes",
+        Work::Calls => "calls",
+        Work::Segments => "segments",
+    }
+}
+
+/// How much of all work is done, in front of the accesses; nothing before any was begun.
+fn share_of(alloc: Global, done: u64, all: u64, work: Work) -> Result<String, AllocError> {
+    if all == 0 {
         return Ok(String::new(alloc));
     }
-    let answered = grouped(alloc, answered)?;
-    let calls = grouped(alloc, calls)?;
-    format!(in alloc; "{answered} of {calls} calls, ")
+    let done = grouped(alloc, done)?;
+    let all = grouped(alloc, all)?;
+    let work = name_of(work);
+    format!(in alloc; "{done} of {all} {work}, ")
 }
 
 /// A number with commas between its thousands.

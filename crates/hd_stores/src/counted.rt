@@ -6,7 +6,7 @@ ghost use Rattle.hd_output.specs.Counts.{one_more};
 
 use crate::store::{BlockStore, CommitStore};
 use hd_dbd::Refused;
-use hd_output::Progress;
+use hd_output::{Progress, Work};
 use std::marker::Model;
 
 /// After so many accesses each the progress is told.
@@ -89,6 +89,15 @@ impl<'p, S: BlockStore, P: Progress> BlockStore for Counted<'p, S, P> {
 
     fn length(&self) -> u64 {
         self.inner.length()
+    }
+
+    fn begin_work(&self, all: u64, work: Work) {
+        self.progress.begin(all, work);
+    }
+
+    #[inline(always)]
+    fn work_done(&self, count: u64) {
+        self.progress.done(count);
     }
 
     fn read(&mut self, n: u32, buf: &mut [u8]) -> Result<(), Refused>

@@ -5,6 +5,7 @@ ghost use Rattle.hd_bytes.specs.Ranges.{bytes_at};
 ghost use Rattle.hd_stores.specs.Stores.{Committed, IsCommit, FailsCommit, CountsDevice, StaysSound, RefusesGrowth};
 
 use hd_dbd::Refused;
+use hd_output::Work;
 
 /// Blocks of one size, read and written whole and numbered from 0.
 ///
@@ -37,6 +38,12 @@ pub trait BlockStore {
     /// All bytes, which need be no whole number of blocks.
     fn length(&self) -> u64
         ensures { IsTrue (is_sound self.now) → result ≡ length (contents self.now) };
+
+    /// Is told that so many of these are to be done over the store. It is no access, and most stores pass over it; one that tells how far a command is tells this.
+    fn begin_work(&self, _all: u64, _work: Work) {}
+
+    /// Is told that so many more of them are done.
+    fn work_done(&self, _count: u64) {}
 
     /// Reads block `n` into `buf`, which is as long as a block. `Device` is a failed access.
     fn read(&mut self, n: u32, buf: &mut [u8]) -> Result<(), Refused>

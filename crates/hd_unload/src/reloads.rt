@@ -21,6 +21,7 @@ use crate::path::LoadPath;
 use crate::record::{behind_head, next_record};
 use crate::row::load_row;
 use hd_dbd::{Dbd, Refused};
+use hd_output::Work;
 use hd_stores::BlockStore;
 use hd_volume::Volume;
 use std::alloc::Global;
@@ -78,6 +79,7 @@ fn load_records<S: BlockStore>(
     let types = dbd.types();
     let mut path = LoadPath::new();
     let mut left = records;
+    volume.begin_work(records.len() as u64, Work::Bytes);
     for count in 0..records.len() {
         let number = count as u64 + 1;
         let record = match next_record(left, count as u64, types) {
@@ -87,7 +89,10 @@ fn load_records<S: BlockStore>(
         };
         match load_record(volume, dbd, &mut path, record.code, record.bytes, number) {
             Err(fault) => return Err(fault),
-            Ok(()) => left = record.rest,
+            Ok(()) => {
+                volume.work_done(left.len().saturating_sub(record.rest.len()) as u64);
+                left = record.rest;
+            }
         }
     }
     Err(ReloadFault::Record(RecordFault::U2, records.len() as u64 + 1))

@@ -130,6 +130,7 @@ fn write_records<S: BlockStore, W: Write>(
             return Ok(count);
         }
         write_and_go_on(volume, dbd, &mut path, out)?;
+        volume.work_done(1);
     }
     Ok(most)
 }

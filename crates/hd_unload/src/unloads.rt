@@ -7,6 +7,7 @@ use crate::fault::StreamFault;
 use crate::stream::write_stream;
 use hd_check::{CheckFault, check};
 use hd_dbd::Dbd;
+use hd_output::Work;
 use hd_stores::BlockStore;
 use hd_volume::Volume;
 use std::alloc::Global;
@@ -43,12 +44,15 @@ pub fn unload<S: BlockStore, W: Write>(
     ensures nothing { IfErr result (λ e. ComesFirst e → out.new ≡ out.old) }
 {
     match check(alloc, volume, dbd) {
-        Ok(passed) => match write_stream(volume, dbd, out) {
-            Ok(segments) if segments == passed.segments => Ok(segments),
-            Ok(_) => Err(UnloadFault::Changed),
-            Err(StreamFault::Device) => Err(UnloadFault::Check(CheckFault::Device)),
-            Err(StreamFault::Write) => Err(UnloadFault::Write),
-        },
+        Ok(passed) => {
+            volume.begin_work(u64::from(passed.segments), Work::Segments);
+            match write_stream(volume, dbd, out) {
+                Ok(segments) if segments == passed.segments => Ok(segments),
+                Ok(_) => Err(UnloadFault::Changed),
+                Err(StreamFault::Device) => Err(UnloadFault::Check(CheckFault::Device)),
+                Err(StreamFault::Write) => Err(UnloadFault::Write),
+            }
+        }
         Err(fault) => Err(UnloadFault::Check(fault)),
     }
 }

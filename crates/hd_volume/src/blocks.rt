@@ -16,6 +16,7 @@ use crate::slots::{
 use hd_block::Block;
 use hd_bytes::{write_bytes, write_u32};
 use hd_dbd::{Refused, SegmentSize};
+use hd_output::Work;
 use hd_stores::{BlockStore, CommitStore};
 use std::alloc::Global;
 use std::marker::Model;
@@ -111,6 +112,17 @@ impl<S: BlockStore> Blocks<S> {
         ensures { IsTrue self.now.is_sound → result ≡ length self.now.image }
     {
         self.store.length()
+    }
+
+    /// Tells the store that so many of these are to be done.
+    pub fn begin_work(&self, all: u64, work: Work) {
+        self.store.begin_work(all, work);
+    }
+
+    /// Tells the store that so many more of them are done.
+    #[inline(always)]
+    pub fn work_done(&self, count: u64) {
+        self.store.work_done(count);
     }
 
     /// The bytes of block 0; zeros where there is none.

@@ -22,6 +22,7 @@ use crate::spacing::{Hints, MOST_CALLS, NO_SPACING};
 use hd_block::size_at;
 use hd_bytes::read_u32;
 use hd_dbd::{Dbd, FreeSpace, Refused, SegmentSize};
+use hd_output::Work;
 use hd_stores::{BlockStore, CommitStore};
 use std::alloc::Global;
 use std::marker::Model;
@@ -251,6 +252,17 @@ impl<S: BlockStore> Volume<S> {
         ensures { IsTrue self.now.is_sound → result ≡ length self.now.image }
     {
         self.blocks.length()
+    }
+
+    /// Tells the store that so many of these are to be done, for whoever shows how far a command is.
+    pub fn begin_work(&self, all: u64, work: Work) {
+        self.blocks.begin_work(all, work);
+    }
+
+    /// Tells the store that so many more of them are done.
+    #[inline(always)]
+    pub fn work_done(&self, count: u64) {
+        self.blocks.work_done(count);
     }
 
     /// The address of the first root, 0 for none.
