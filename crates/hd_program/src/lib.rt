@@ -40,6 +40,6 @@ mod volume_store;
 
 pub use commands::{play, stopped};
 pub use hd_files::Named;
-pub use hd_output::{Progress, Silent, Terminal};
+pub use hd_output::{Progress, Silent, Terminal, Work};
 pub use sample::{DBD_SOURCE, PSB_SOURCE, database, program};
 pub use stop::{COMMAND_LINE, Stop};

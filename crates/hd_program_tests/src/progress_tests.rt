@@ -1,5 +1,5 @@
 //! The line of a terminal that tells how far a command is.
-use hd_program::{Progress, Terminal};
+use hd_program::{Progress, Terminal, Work};
 use std::cell::Cell;
 use std::fs::{self, File};
 use std::io;
@@ -32,7 +32,10 @@ enum Step {
     Tell(u64, u64),
     /// So often, each time so many accesses more, to so many blocks.
     Tells(u64, u64, u64),
-    Answered(u64, u64),
+    /// So many of these are to be done.
+    Begin(u64, Work),
+    /// So many more are done.
+    Done(u64),
     EndBeforeOutput,
     End,
 }
@@ -46,7 +49,8 @@ fn take<P: Progress>(terminal: &P, step: Step) {
                 terminal.tell("checking", all, blocks);
             }
         }
-        Step::Answered(answered, calls) => terminal.answered(answered, calls),
+        Step::Begin(all, work) => terminal.begin(all, work),
+        Step::Done(count) => terminal.done(count),
         Step::EndBeforeOutput => terminal.end_before_output(),
         Step::End => terminal.end(),
     }
@@ -86,19 +90,29 @@ const SCENES: &[Scene] = &[
         false,
         b"\rplaying: 0 accesses to 1 blocks\x1b[K\rplaying: 999 accesses to 1,000 blocks\x1b[K\rplaying: 1,000,000 accesses to 65,536 blocks\x1b[K\rplaying: 1,234,567 accesses to 1,002 blocks\x1b[K\rplaying: 12,000,345,678 accesses to 999,999 blocks\x1b[K",
     ),
-    // It is shown how many calls are answered.
+    // It is shown how much of all work is done, of what was begun last.
     (
         &[
             Step::Tell(256, 4096),
-            Step::Answered(1, 50_001),
-            Step::Answered(1_234, 50_001),
+            Step::Begin(50_001, Work::Calls),
+            Step::Done(1),
+            Step::Done(1_233),
             Step::Tell(512, 4096),
+            Step::Begin(4096, Work::Blocks),
+            Step::Tell(768, 4096),
+            Step::Done(4096),
+            Step::Begin(1_000_000, Work::Segments),
+            Step::Done(999),
+            Step::Tell(1024, 4096),
+            Step::Begin(18, Work::Bytes),
+            Step::Done(18),
+            Step::Tell(1280, 4096),
             Step::End,
         ],
         1000,
         true,
         false,
-        b"\rplaying: 256 accesses to 4,096 blocks\x1b[K\rplaying: 1,234 of 50,001 calls, 512 accesses to 4,096 blocks\x1b[K\r\x1b[K",
+        b"\rplaying: 256 accesses to 4,096 blocks\x1b[K\rplaying: 1,234 of 50,001 calls, 512 accesses to 4,096 blocks\x1b[K\rplaying: 0 of 4,096 blocks, 768 accesses to 4,096 blocks\x1b[K\rplaying: 999 of 1,000,000 segments, 1,024 accesses to 4,096 blocks\x1b[K\rplaying: 18 of 18 bytes, 1,280 accesses to 4,096 blocks\x1b[K\r\x1b[K",
     ),
     // The line gives way to output on the same terminal.
     (

@@ -1,6 +1,6 @@
 //! That commands tell how far they are, and take it away before a line and at the end.
 use crate::words::words_of;
-use hd_program::{DBD_SOURCE, PSB_SOURCE, Progress, Silent, play};
+use hd_program::{DBD_SOURCE, PSB_SOURCE, Progress, Silent, Work, play};
 use std::cell::Cell;
 use std::fs::{self, File};
 use std::io::{self, Write};
@@ -14,8 +14,9 @@ struct Told {
     tells: Cell<u64>,
     accesses: Cell<u64>,
     blocks: Cell<u64>,
-    answered: Cell<u64>,
-    calls: Cell<u64>,
+    work: Cell<Work>,
+    all: Cell<u64>,
+    done: Cell<u64>,
     is_shown: Cell<bool>,
 }
 
@@ -25,8 +26,9 @@ impl Told {
             tells: Cell::new(0),
             accesses: Cell::new(0),
             blocks: Cell::new(0),
-            answered: Cell::new(0),
-            calls: Cell::new(0),
+            work: Cell::new(Work::Blocks),
+            all: Cell::new(0),
+            done: Cell::new(0),
             is_shown: Cell::new(false),
         }
     }
@@ -40,9 +42,14 @@ impl Progress for Told {
         self.is_shown.set(true);
     }
 
-    fn answered(&self, answered: u64, calls: u64) {
-        self.answered.set(answered);
-        self.calls.set(calls);
+    fn begin(&self, all: u64, work: Work) {
+        self.work.set(work);
+        self.all.set(all);
+        self.done.set(0);
+    }
+
+    fn done(&self, count: u64) {
+        self.done.set(self.done.get().saturating_add(count));
     }
 
     fn end(&self) {
@@ -74,18 +81,20 @@ impl<'t> Write for Line<'t> {
     }
 }
 
-/// A command, the status with which it ends, the most blocks of which it tells, if not those of the volume, the calls of which it tells, and whether it
-/// makes so many accesses that it tells of any.
+/// A command, the status with which it ends, the most blocks of which it tells, if not those of the volume, the work that it begins last, how much that is and
+/// how much of it is done, where that is known, and whether it makes so many accesses that it tells of any.
 struct Command {
     line: &'static str,
     status: u8,
     blocks: Option<u64>,
-    calls: u64,
+    work: Work,
+    all: u64,
+    done: Option<u64>,
     is_told: bool,
 }
 
-/// The command ends with its status; meanwhile progress is told of a volume of so many blocks at most, and of its calls, all of which are answered, and none
-/// of it is seen beside a line or at the end.
+/// The command ends with its status; meanwhile progress is told of a volume of so many blocks at most, and of its work, and none of it is seen beside a line or at
+/// the end.
 fn expect_told<R: Files<File = File> + AllocGlobal + Abort>(
     rt: &R,
     command: &Command,
@@ -94,7 +103,9 @@ fn expect_told<R: Files<File = File> + AllocGlobal + Abort>(
     let Command {
         line,
         status,
-        calls,
+        work,
+        all,
+        done,
         is_told,
         ..
     } = *command;
@@ -119,7 +130,12 @@ fn expect_told<R: Files<File = File> + AllocGlobal + Abort>(
         "{line}"
     );
     assert!(rt; told.blocks.get() <= blocks, "{line}");
-    assert_eq!(rt; (told.answered.get(), told.calls.get()), (calls, calls));
+    assert!(rt;
+        told.work.get() == work && told.all.get() == all && told.done.get() <= all,
+        "{line}"
+    );
+    let wanted = done.unwrap_or(told.done.get());
+    assert_eq!(rt; told.done.get(), wanted, "{line}");
     assert!(rt;
         !(told.is_shown.get() || out.is_mixed || err.is_mixed),
         "{line}"
@@ -134,35 +150,45 @@ const COMMANDS: &[Command] = &[
         line: "reload told.dbd told.stream told.volume 1000",
         status: 0,
         blocks: Some(1000),
-        calls: 0,
+        work: Work::Bytes,
+        all: 9905,
+        done: Some(9900),
         is_told: true,
     },
     Command {
         line: "check told.dbd told.volume",
         status: 0,
         blocks: None,
-        calls: 0,
+        work: Work::Segments,
+        all: 900,
+        done: Some(900),
         is_told: true,
     },
     Command {
         line: "unload told.dbd told.volume told.out",
         status: 0,
         blocks: None,
-        calls: 0,
+        work: Work::Segments,
+        all: 900,
+        done: Some(900),
         is_told: true,
     },
     Command {
         line: "deck told.dbd told.psb told.volume told.deck",
         status: 0,
         blocks: None,
-        calls: 903,
+        work: Work::Calls,
+        all: 903,
+        done: Some(903),
         is_told: true,
     },
     Command {
         line: "reload told.dbd told.stream told.volume 120",
         status: 1,
         blocks: Some(120),
-        calls: 0,
+        work: Work::Bytes,
+        all: 9905,
+        done: None,
         is_told: false,
     },
 ];
@@ -172,7 +198,9 @@ const DAMAGED: Command = Command {
     line: "check told.dbd told.volume --explain=always",
     status: 1,
     blocks: Some(1000),
-    calls: 0,
+    work: Work::Segments,
+    all: 900,
+    done: None,
     is_told: true,
 };
 
