@@ -201,6 +201,13 @@ pub const LINES: &[Explanation] = &[
                numbers are those of its blocks, the header among them, its segments and its roots. The status is 0.",
     },
     Entry {
+        word: "faults of the index",
+        kind: Kind::Line,
+        summary: "hd check --all found faults of pointers, and of the index too",
+        text: "The index is judged by itself: the lines behind this one are all faults of its first phase that finds\n\
+               any. hd salvage and hd reload make the index anew, and no row is lost by it. The status is 1.",
+    },
+    Entry {
         word: "unloaded",
         kind: Kind::Line,
         summary: "the stream of a volume was written",

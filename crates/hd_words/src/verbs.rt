@@ -132,7 +132,7 @@ const COMMIT_ON_REQUEST: Word = Word {
 /// That all faults are listed.
 const ALL: Word = Word {
     name: "ALL",
-    help: "List all faults of the first phase of the check that finds any, and what later phases find, with the segments that they touch",
+    help: "List all faults of the first phase of the check that finds any, and those of the index beside faults of pointers, with the segments that they touch",
     kind: Kind::Flag("all"),
 };
 
