@@ -1,9 +1,9 @@
 //! Tests that play lists of calls, with each access failing in turn, and with each growth finding no memory in turn.
 
 use crate::bases::Base;
+use crate::list_text::{cut, is_list_end, number_of};
+use crate::list_trial::{WHOLE, Way};
 use crate::outcomes::{Played, begun, play_in, untold};
-use crate::text::{cut, is_list_end, number_of};
-use crate::trial::{WHOLE, Way};
 use hd_dbd::Refused;
 use std::alloc::Global;
 

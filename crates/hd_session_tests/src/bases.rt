@@ -1,7 +1,7 @@
 //! Databases, programs and volumes that the lists of calls begin with, by texts.
 
+use crate::list_text::{cut, is_end, is_slash, number_of};
 use crate::stores::{SIZE, Sparing};
-use crate::text::{cut, is_end, is_slash, number_of};
 use hd_dbd::{DataType, Dbd, DbdFault, Field, FreeSpace, Key, Name8, Pcb, Rule, SegType, Sens};
 use hd_sample::{image, put, stream_of, widened};
 use hd_unload::reload;
@@ -185,12 +185,7 @@ fn volume_of(alloc: Global, dbd: &Dbd, rows: &[u8], width: usize, largest: u32) 
     records.push(0).ok()?;
     records.extend_from_slice(&count.to_be_bytes()).ok()?;
     let stream = stream_of(alloc, &records).ok()?;
-    let store = Sparing {
-        bytes: Vec::new(alloc),
-        room: 0,
-        growths: 0,
-        refused: u32::MAX,
-    };
+    let store = Sparing::new(alloc, Vec::new(alloc), u32::MAX);
     match reload(alloc, dbd, &stream, store, largest, 3) {
         Ok(made) => Some(made.store.bytes),
         Err(_) => None,

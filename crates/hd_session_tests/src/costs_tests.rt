@@ -1,7 +1,8 @@
 //! What calls cost, in accesses of the store.
 
+use crate::list_text::number_of;
 use crate::played::{play, volume_of};
-use crate::texts::{base_of, deck_of, number, part, stream_of};
+use crate::texts::{base_of, deck_of, part, stream_of};
 use hd_dbd::{Dbd, Psb};
 use std::alloc::Global;
 use std::test::Fail;
@@ -134,7 +135,7 @@ fn accesses(
 
 /// A number of a line.
 fn asked(line: &[u8], place: usize) -> u64 {
-    number(part(line, b';', place))
+    u64::from(number_of(part(line, b';', place)))
 }
 
 /// What a case costs over a volume of so many blocks, and whether that is what it should.

@@ -1,5 +1,6 @@
 //! Databases, programs and rows as text.
 
+use crate::list_text::number_of;
 use hd_dbd::{Dbd, Psb};
 use hd_gen::{read_dbd, read_psb};
 use std::alloc::{AllocError, Global};
@@ -11,17 +12,6 @@ pub fn part(text: &[u8], separator: u8, place: usize) -> &[u8] {
         .unwrap_or(&[])
 }
 
-/// The number that decimal digits spell.
-pub fn number(text: &[u8]) -> u64 {
-    let mut number: u64 = 0;
-    for byte in text {
-        number = number
-            .saturating_mul(10)
-            .saturating_add(u64::from(byte.wrapping_sub(b'0')));
-    }
-    number
-}
-
 /// A database and a program of it: the DBD source, a `!`, and the PSB source, up to another `!` or the end.
 pub fn base_of(alloc: Global, text: &[u8]) -> Option<(Dbd, Psb)> {
     let dbd = read_dbd(alloc, part(text, b'!', 0)).ok()?;
@@ -30,7 +20,7 @@ pub fn base_of(alloc: Global, text: &[u8]) -> Option<(Dbd, Psb)> {
 }
 
 /// The last four digits of a number.
-fn digits(number: u64) -> [u8; 4] {
+fn digits(number: u32) -> [u8; 4] {
     let mut digits = [b'0'; 4];
     let mut left = number;
     for digit in digits.iter_mut().rev() {
@@ -42,9 +32,9 @@ fn digits(number: u64) -> [u8; 4] {
 
 /// Adds a record: the digit of a type, and `~` where its rows vary in length; how many there are of it; a length; and a text, which is filled up with points to
 /// that length. Each `#` is a digit of the row's number, the last one its units.
-fn add_record(stream: &mut Vec<u8>, record: &[u8], row: u64) -> Result<(), AllocError> {
+fn add_record(stream: &mut Vec<u8>, record: &[u8], row: u32) -> Result<(), AllocError> {
     let kind = part(record, b',', 0);
-    let length = u16::try_from(number(part(record, b',', 2))).unwrap_or(0);
+    let length = u16::try_from(number_of(part(record, b',', 2))).unwrap_or(0);
     let text = part(record, b',', 3);
     let digits = digits(row);
     let signs = text.iter().filter(|byte| **byte == b'#').count();
@@ -74,7 +64,7 @@ pub fn stream_of(alloc: Global, dbd: &Dbd, records: &[u8]) -> Result<Vec<u8>, Al
     stream.extend_from_slice(dbd.name().bytes())?;
     let mut count: u32 = 0;
     for record in records.split(|byte| *byte == b'/') {
-        for row in 0..number(part(record, b',', 1)) {
+        for row in 0..number_of(part(record, b',', 1)) {
             add_record(&mut stream, record, row.saturating_add(1))?;
             count = count.saturating_add(1);
         }

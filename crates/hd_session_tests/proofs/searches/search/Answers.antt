@@ -6,7 +6,7 @@ use Rattle.hd_calls.specs.declared.call.GetKind.TheVariants.{Unique}
 use Rattle.hd_calls.specs.Ssas.{Ssa}
 use Rattle.hd_calls.specs.Admits.{Descend}
 use Rattle.hd_calls.proofs.Admitting.{resolved_descend}
-use Rattle.hd_call_tests.proofs.searches.search.Goals as goal
+use Rattle.hd_session_tests.proofs.searches.search.Goals as goal
 
 -- a list that is not said to be empty has an element
 some : (n : ℕ) (b : Bool) → b ≡ (n == 0) → b ≡ false → 0 < n

@@ -3,9 +3,9 @@ ghost use Rattle.std.specs.Prelude.{◌≡◌, ◌≤◌, ◌<◌};
 ghost use Rattle.hd_update.specs.Inserting.{AreInsertArguments};
 
 use crate::bases::filled;
+use crate::list_text::{cut, is_comma, is_end};
+use crate::list_trial::{Trial, places_of};
 use crate::searches::{come, place, search, texts_of};
-use crate::text::{cut, is_comma, is_end};
-use crate::trial::{Trial, places_of};
 use hd_calls::Function;
 use hd_dbd::{Pcb, Refused, Status, status_text};
 use hd_forest::Path;

@@ -2,8 +2,8 @@
 
 use crate::bases::{Base, base_of};
 use crate::calls::play;
-use crate::text::cut;
-use crate::trial::{Place, Trial, WHOLE, Way, places_of};
+use crate::list_text::cut;
+use crate::list_trial::{Place, Trial, WHOLE, Way, places_of};
 use hd_dbd::Refused;
 use hd_forest::{Path, next_row, tip_of};
 use hd_position::Position;

@@ -1,6 +1,6 @@
 use Rattle.std.specs.Prelude.{map}
 use Rattle.hd_calls.proofs.Admitting.{resolved_descend}
-use Rattle.hd_call_tests.proofs.calls.call.Goals as goal
+use Rattle.hd_session_tests.proofs.calls.call.Goals as goal
 
 pub get-requires-in-Get-clause-descend : goal.get-requires-in-Get-clause-descend
 get-requires-in-Get-clause-descend c =

@@ -1,8 +1,8 @@
 //! Searches that no call asks for by itself.
 ghost use Rattle.std.specs.Prelude.{◌≤◌, ◌<◌};
 
-use crate::text::is_slash;
-use crate::trial::Trial;
+use crate::list_text::is_slash;
+use crate::list_trial::Trial;
 use hd_calls::{Function, GetKind};
 use hd_dbd::{Refused, Rule, Status};
 use hd_forest::{Path, code_at, tip_of};

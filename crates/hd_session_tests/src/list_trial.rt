@@ -3,8 +3,8 @@ ghost use Rattle.std.specs.Prelude.{◌≡◌, false};
 ghost use Rattle.hd_dbd.specs.Facts.{stored_sizes};
 
 use crate::bases::Base;
+use crate::list_text::{is_slash, number_of};
 use crate::stores::Sparing;
-use crate::text::{is_slash, number_of};
 use hd_dbd::{Dbd, Refused};
 use hd_forest::{Path, tip_of};
 use hd_position::Position;
@@ -91,12 +91,7 @@ impl<'a> Trial<'a> {
         if dbd.block_size() != 128 {
             return Err(Refused::Broken);
         }
-        let store = Sparing {
-            bytes,
-            room: 0,
-            growths: 0,
-            refused: way.growth,
-        };
+        let store = Sparing::new(alloc, bytes, way.growth);
         match Volume::load(alloc, FuseStore::new(store, way.passes), dbd) {
             Ok(volume) => Ok(Trial {
                 volume,

@@ -1,9 +1,9 @@
 //! A test that counts the accesses of calls and searches.
 
 use crate::bases::Base;
+use crate::list_text::{cut, is_list_end, is_part_end, number_of};
+use crate::list_trial::WHOLE;
 use crate::outcomes::{begun, play_in, untold};
-use crate::text::{cut, is_list_end, is_part_end, number_of};
-use crate::trial::WHOLE;
 use std::alloc::Global;
 
 /// Lists whose parts begin with `#` and how many accesses their calls take behind those of the first part, or from how many to how many: one for each block
