@@ -9,19 +9,10 @@ use Rattle.hd_session.specs.Turns.{Turn}
 use Rattle.hd_session.specs.Requests.{Request, commit}
 use Rattle.hd_deck.specs.StepText.{StepText}
 use Rattle.hd_deck.specs.Runs.{turns_of}
-use Rattle.hd_deck.specs.Commits.{Stored, stored_in, requests_from, IsDoneUntilFailure, IsRunDone, IsDoneInPart, IsBrokenInPart}
+use Rattle.hd_deck.specs.Commits.{Stored, stored_in, requests_from, deck_requests, IsDoneUntilFailure, IsRunDone, IsDoneInPart, IsBrokenInPart}
 use Rattle.hd_journal.specs.Journals.{IsCommitted}
 
 -- ---- a play over a store
-
--- the calls of a deck, with a commit behind every so many of them where that is wanted
-abbrev pub deck_requests : Option ℕ → List StepText → List Request
-deck_requests every steps = requests_from every 1 (turns_of steps)
-
--- Over a sound store all calls of the steps were made, with the commits among them, their lines were printed, and so many of them found no memory.
-abbrev pub PlaysWithCommits : {S : Type 0} → (S → Bool) → (S → List ℕ) → (S → Committed) → Database → List View → Option ℕ → List StepText → S → S → Option (List ℕ) → Option (List ℕ) → ℕ → Type 0
-PlaysWithCommits is_sound contents committed d pcbs every steps old new before after memory =
-    IsTrue (is_sound old) → IsRunDone d pcbs (stored_in contents committed old) (deck_requests every steps) before after memory (stored_in contents committed new)
 
 -- over a store that was sound, and still is, the first of them were carried out, however many
 abbrev pub PlaysInPart : {S : Type 0} → (S → Bool) → (S → List ℕ) → (S → Committed) → Database → List View → Option ℕ → List StepText → S → S → Type 0

@@ -2,7 +2,8 @@ ghost use Rattle.std.specs.Prelude.{◌≡◌, ◌≢◌, ◌^◌, ◌≤◌, le
 ghost use Rattle.hd_dbd.specs.ProgramRules.{type_names};
 ghost use Rattle.hd_deck.specs.StepText.{StepFits};
 ghost use Rattle.hd_commands.specs.Commands.{IsRefused};
-ghost use Rattle.hd_commands.specs.Units.{PlaysWithCommits, PlaysInPart, AddsCommits};
+ghost use Rattle.hd_deck.specs.Commits.{PlaysWithCommits};
+ghost use Rattle.hd_commands.specs.Units.{PlaysInPart, AddsCommits};
 ghost use Rattle.hd_commands.specs.Plays.{PlaySays, FailsOrStays};
 
 use crate::ended::{Ended, refuse};

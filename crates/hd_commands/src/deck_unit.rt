@@ -5,9 +5,9 @@ ghost use Rattle.hd_dbd.specs.Refusals.{OnlyDevice};
 ghost use Rattle.hd_stores.specs.Stores.{IsCommit, CountsDevice, StaysSound};
 ghost use Rattle.hd_journal.specs.Framed.{IsSafe};
 ghost use Rattle.hd_deck.specs.Runs.{turns_of};
-ghost use Rattle.hd_deck.specs.Commits.{stored_in};
+ghost use Rattle.hd_deck.specs.Commits.{stored_in, PlaysWithCommits};
 ghost use Rattle.hd_commands.specs.Commands.{IsRefused};
-ghost use Rattle.hd_commands.specs.Units.{PlaysWithCommits, PlaysInPart, AddsCommits, IsWritten, MayCommit, PlaysUnit, UnitCommits};
+ghost use Rattle.hd_commands.specs.Units.{PlaysInPart, AddsCommits, IsWritten, MayCommit, PlaysUnit, UnitCommits};
 ghost use Rattle.hd_commands.specs.Plays.{UnitSays, FailsOrStays};
 
 use crate::deck_commits::play_and_commit;

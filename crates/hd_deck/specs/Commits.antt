@@ -19,7 +19,8 @@ use Rattle.hd_deck.specs.declared.plays.Stop.TheVariants as stop
 use Rattle.hd_deck.specs.declared.runs.RunFault.{RunFault}
 use Rattle.hd_deck.specs.declared.runs.RunFault.TheVariants as run
 use Rattle.hd_deck.specs.Printing.{lines_from, print}
-use Rattle.hd_deck.specs.Runs.{memory_in, IsPlayed}
+use Rattle.hd_deck.specs.StepText.{StepText}
+use Rattle.hd_deck.specs.Runs.{memory_in, turns_of, IsPlayed}
 
 -- ---- the commits within a deck
 
@@ -207,3 +208,19 @@ IsDoneUntilFault d pcbs store requests left (run.Open fault) =
 IsDoneUntilFault d pcbs store requests left run.Memory = (left.committed ≡ store.committed) × (left.bytes ≡ store.bytes)
 IsDoneUntilFault d pcbs store requests left run.Device = (left.committed ≡ store.committed) ⊎ IsBrokenInPart d pcbs store requests left
 IsDoneUntilFault d pcbs store requests left run.Write = IsDoneInPart d pcbs store requests left
+
+-- ---- a deck over a store
+
+-- the calls of a deck, with a commit behind every so many of them where that is wanted
+abbrev pub deck_requests : Option ℕ → List StepText → List Request
+deck_requests every steps = requests_from every 1 (turns_of steps)
+
+-- Over a sound store all calls of the steps were made, with the commits among them, their lines were printed, and so many of them found no memory.
+abbrev pub PlaysWithCommits : {S : Type 0} → (S → Bool) → (S → List ℕ) → (S → Committed) → Database → List View → Option ℕ → List StepText → S → S → Option (List ℕ) → Option (List ℕ) → ℕ → Type 0
+PlaysWithCommits is_sound contents committed d pcbs every steps old new before after memory =
+    IsTrue (is_sound old) → IsRunDone d pcbs (stored_in contents committed old) (deck_requests every steps) before after memory (stored_in contents committed new)
+
+-- Over a sound store a fault ended the calls of the steps, with the commits among them.
+abbrev pub PlaysUntilFault : {S : Type 0} → (S → Bool) → (S → List ℕ) → (S → Committed) → Database → List View → Option ℕ → List StepText → S → S → RunFault → Type 0
+PlaysUntilFault is_sound contents committed d pcbs every steps old new fault =
+    IsTrue (is_sound old) → IsDoneUntilFault d pcbs (stored_in contents committed old) (deck_requests every steps) (stored_in contents committed new) fault

@@ -3,6 +3,7 @@ use Rattle.std.specs.Prelude.{◌≡◌, ◌≢◌, IsTrue, ℕ, ◌<◌, ◌≤
 use Rattle.std.specs.Io.KnownBytes.{Appends}
 use Rattle.hd_dbd.specs.declared.answer.Refused.{Refused}
 use Rattle.hd_dbd.specs.declared.answer.Refused.TheVariants as refused
+use Rattle.hd_dbd.specs.Calls.{CallText}
 use Rattle.hd_dbd.specs.Types.{View}
 use Rattle.hd_dbd.specs.Hierarchy.{Database}
 use Rattle.hd_dbd.specs.Segment.{Segment}
@@ -27,9 +28,13 @@ use Rattle.hd_deck.specs.Printing.{lines_from, print}
 
 -- ---- the calls of a deck
 
+-- a call of a PCB, made so many times
+abbrev pub repeated : ℕ → ℕ → CallText → List Turn
+repeated count pcb call = replicate count (record { pcb = pcb; call = call })
+
 -- the calls of one step
 abbrev pub step_turns : StepText → List Turn
-step_turns s = replicate s.repeat (record { pcb = s.pcb; call = s.call })
+step_turns s = repeated s.repeat s.pcb s.call
 
 -- the calls of a deck in their order, each as often as its step is repeated
 abbrev pub turns_of : List StepText → List Turn

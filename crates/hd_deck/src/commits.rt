@@ -1,9 +1,9 @@
-ghost use Rattle.std.specs.Prelude.{◌≡◌, ◌+◌, ◌^◌, ◌<◌, ◌≤◌, ◌∷◌, [], length, replicate, IsTrue, false, OnOk, OnErr, IfOk, IfErr, All};
+ghost use Rattle.std.specs.Prelude.{◌≡◌, ◌+◌, ◌^◌, ◌<◌, ◌≤◌, ◌∷◌, [], length, IsTrue, false, OnOk, OnErr, IfOk, IfErr, All};
 ghost use Rattle.hd_dbd.specs.Hierarchy.{longest_path};
 ghost use Rattle.hd_session.specs.Requests.{ask, calls_in, FailsIn};
 ghost use Rattle.hd_session.specs.Turns.{StaysWhole};
 ghost use Rattle.hd_deck.specs.Commits.{is_due, commit_behind, requests_from, CommitsIfDue, PlaysRequests, DoesUntil};
-ghost use Rattle.hd_deck.specs.Runs.{step_turns, turns_of, StopsAt, Breaks};
+ghost use Rattle.hd_deck.specs.Runs.{repeated, step_turns, turns_of, StopsAt, Breaks};
 ghost use Rattle.hd_deck.specs.StepText.{StepFits};
 
 use crate::call_room::CallRoom;
@@ -85,8 +85,8 @@ fn play_calls_and_commit<S: CommitStore, W: Write>(
     requires room { longest_path session.old.database.types ≤ io.old.room }
     requires number { number + repeat < 2 ^ 64 }
     requires whole { session.old.broken ≡ false }
-    ensures plays { IfOk result (λ lacking. PlaysRequests session.old (requests_from every number (replicate repeat (record { pcb = pcb; call = call.now }))) number (W.contents out.old) (W.contents out.new) lacking session.new) }
-    ensures until { IfErr result (λ e. DoesUntil session.old (requests_from every number (replicate repeat (record { pcb = pcb; call = call.now }))) e session.new) }
+    ensures plays { IfOk result (λ lacking. PlaysRequests session.old (requests_from every number (repeated repeat pcb call.now)) number (W.contents out.old) (W.contents out.new) lacking session.new) }
+    ensures until { IfErr result (λ e. DoesUntil session.old (requests_from every number (repeated repeat pcb call.now)) e session.new) }
     ensures few { IfOk result (λ lacking. lacking ≤ repeat) }
     ensures whole { OnOk result (StaysWhole session.old session.new) }
     ensures stops { IfErr result (λ e. StopsAt session.old e session.new) }

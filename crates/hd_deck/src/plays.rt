@@ -1,9 +1,9 @@
-ghost use Rattle.std.specs.Prelude.{◌≡◌, ◌+◌, ◌^◌, ◌<◌, ◌≤◌, ◌∷◌, [], length, replicate, false, OnOk, IfOk, IfErr, All};
+ghost use Rattle.std.specs.Prelude.{◌≡◌, ◌+◌, ◌^◌, ◌<◌, ◌≤◌, ◌∷◌, [], length, false, OnOk, IfOk, IfErr, All};
 ghost use Rattle.hd_dbd.specs.Hierarchy.{longest_path};
 ghost use Rattle.hd_stores.specs.Stores.{CountsFor, SoundFor};
 ghost use Rattle.hd_deck.specs.StepText.{StepFits};
 ghost use Rattle.hd_session.specs.Turns.{StaysWhole};
-ghost use Rattle.hd_deck.specs.Runs.{step_turns, turns_of, memory_of, PlaysAll, PlaysUntil, StopsAt};
+ghost use Rattle.hd_deck.specs.Runs.{repeated, step_turns, turns_of, memory_of, PlaysAll, PlaysUntil, StopsAt};
 
 use crate::call_room::CallRoom;
 use crate::lines::print_outcome;
@@ -78,8 +78,8 @@ fn play_calls<S: BlockStore, W: Write>(
     requires room { longest_path session.old.database.types ≤ io.old.room }
     requires number { number + repeat < 2 ^ 64 }
     requires whole { session.old.broken ≡ false }
-    ensures plays { IfOk result (λ lacking. PlaysAll session.old (replicate repeat (record { pcb = pcb; call = call.now })) number (W.contents out.old) (W.contents out.new) lacking session.new) }
-    ensures until { IfErr result (λ e. PlaysUntil session.old (replicate repeat (record { pcb = pcb; call = call.now })) e session.new) }
+    ensures plays { IfOk result (λ lacking. PlaysAll session.old (repeated repeat pcb call.now) number (W.contents out.old) (W.contents out.new) lacking session.new) }
+    ensures until { IfErr result (λ e. PlaysUntil session.old (repeated repeat pcb call.now) e session.new) }
     ensures few { IfOk result (λ lacking. lacking ≤ repeat) }
     ensures whole { OnOk result (StaysWhole session.old session.new) }
     ensures stops { IfErr result (λ e. StopsAt session.old e session.new) }

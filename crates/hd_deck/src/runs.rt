@@ -3,7 +3,7 @@ ghost use Rattle.hd_dbd.specs.Hierarchy.{longest_path};
 ghost use Rattle.hd_dbd.specs.ProgramRules.{type_names};
 ghost use Rattle.hd_stores.specs.Stores.{CountsFor, SoundFor};
 ghost use Rattle.hd_session.specs.Turns.{Turn};
-ghost use Rattle.hd_deck.specs.Commits.{stored_in, requests_from, PlaysRequestsOut, LeavesUntil, IsOpenedOn, IsRunDone, IsDoneUntilFault};
+ghost use Rattle.hd_deck.specs.Commits.{stored_in, requests_from, PlaysRequestsOut, LeavesUntil, IsOpenedOn, PlaysWithCommits, PlaysUntilFault};
 ghost use Rattle.hd_deck.specs.StepText.{StepFits};
 ghost use Rattle.hd_deck.specs.Runs.{turns_of, IsRunFaultOf, IsBeforeCalls, fault_of, fault_refusal, PlaysOut, LeavesAt, IsRunWhole};
 
@@ -223,9 +223,9 @@ pub fn run_with_commits<S: CommitStore, W: Write>(
     requires matches { psb.now.made_for ≡ type_names dbd.now.types }
     requires steps { All (StepFits (length psb.now.pcbs)) steps.now }
     requires count { length steps.now ≤ 2 ^ 30 }
-    ensures done { IfOk result (λ e. IsTrue (S.is_sound store) → IsRunDone dbd.now psb.now.pcbs (stored_in S.contents S.committed store) (requests_from every 1 (turns_of steps.now)) (W.contents out.old) (W.contents out.new) e.memory (stored_in S.contents S.committed e.store)) }
+    ensures done { IfOk result (λ e. PlaysWithCommits S.is_sound S.contents S.committed dbd.now psb.now.pcbs every steps.now store e.store (W.contents out.old) (W.contents out.new) e.memory) }
     ensures calls { IfOk result (λ e. e.calls ≡ length (turns_of steps.now)) }
-    ensures fault { IfErr result (λ e. IsTrue (S.is_sound store) → IsDoneUntilFault dbd.now psb.now.pcbs (stored_in S.contents S.committed store) (requests_from every 1 (turns_of steps.now)) (stored_in S.contents S.committed e.0) e.1) }
+    ensures fault { IfErr result (λ e. PlaysUntilFault S.is_sound S.contents S.committed dbd.now psb.now.pcbs every steps.now store e.0 e.1) }
     ensures early { IfErr result (λ e. IsBeforeCalls e.1 → (out.new ≡ out.old) × (S.committed e.0 ≡ S.committed store)) }
     ensures failures { IfOk result (λ e. S.failures e.store ≡ S.failures store) }
     ensures counts { IfErr result (λ e. CountsFor (fault_refusal e.1) (S.failures store) (S.failures e.0)) }

@@ -1,5 +1,5 @@
 -- What a salvage writes.
-use Rattle.std.specs.Prelude.{◌≡◌, ◌≢◌, ℕ, ◌/◌, ◌<◌, ◌^◌, ◌++◌, List, length, Bool, true, false, All, slice_index_or, Option, None, Result, Ok, Err}
+use Rattle.std.specs.Prelude.{◌≡◌, ◌≢◌, ℕ, ◌+◌, ◌/◌, ◌<◌, ◌^◌, ◌++◌, List, length, Bool, true, false, All, slice_index_or, Option, None, Result, Ok, Err}
 use Rattle.std.specs.List.{AllPairs}
 use Rattle.std.specs.Io.KnownBytes.{Appends}
 use Rattle.hd_dbd.specs.Hierarchy.{Database}
@@ -65,6 +65,10 @@ row_in d block r = stored_row d.types (bytes_at block r.place r.size)
 abbrev pub KeepsOn : Database → VolumeState → Option (List ℕ) → List Segment → List Bool → ℕ → Option (List ℕ) → List Segment → List Bool → ℕ → Type 0
 KeepsOn d v now path marks count then path_then marks_then count_then =
     (before : Option (List ℕ)) → IsKeptTo d v before now path marks count → IsKeptTo d v before then path_then marks_then count_then
+
+-- wherever rows were written up to a path, one more is now, up to this one
+abbrev pub KeepsOneMore : Database → VolumeState → Option (List ℕ) → List Segment → List Bool → Option (List ℕ) → List Segment → List Bool → Type 0
+KeepsOneMore d v now path marks then path_then marks_then = (count : ℕ) → KeepsOn d v now path marks count then path_then marks_then (count + 1)
 
 -- what a result is, as far as the volume's store goes: only Device says that an access of it failed
 abbrev pub as_call : {T : Type 0} → Result T SalvageFault → Result T Refused

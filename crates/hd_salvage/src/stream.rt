@@ -5,7 +5,7 @@ ghost use Rattle.hd_unload.specs.Streams.{head_bytes, record_bytes, end_bytes};
 ghost use Rattle.hd_volume.specs.Calls.{IsRead};
 ghost use Rattle.hd_volume.specs.Volumes.{block_at};
 ghost use Rattle.hd_salvage.specs.Records.{IsNoted};
-ghost use Rattle.hd_salvage.specs.Streams.{WritesRow, KeepsOn, row_in, as_call};
+ghost use Rattle.hd_salvage.specs.Streams.{WritesRow, KeepsOneMore, row_in, as_call};
 
 use crate::fault::SalvageFault;
 use crate::path::RowPath;
@@ -166,7 +166,7 @@ pub fn keep<S: BlockStore, W: Write>(
 ) -> Result<bool, SalvageFault>
     requires noted { IsTrue volume.old.is_sound → IsNoted volume.old noted }
     ensures read { IsRead volume.old (as_call result) volume.new }
-    ensures kept { IfOk result (λ k. k ≡ true → IsTrue volume.old.is_sound → (count : ℕ) → KeepsOn dbd.now volume.old (W.contents out.old) path.old marks.old.items count (W.contents out.new) path.new marks.new.items (count + 1)) }
+    ensures kept { IfOk result (λ k. k ≡ true → IsTrue volume.old.is_sound → KeepsOneMore dbd.now volume.old (W.contents out.old) path.old marks.old.items (W.contents out.new) path.new marks.new.items) }
     ensures left { IfOk result (λ k. k ≡ false → (path.new ≡ path.old) × (marks.new.items ≡ marks.old.items) × (out.new ≡ out.old)) }
 {
     let at = eighth_of(noted, volume.block_size());
