@@ -1,5 +1,5 @@
 -- What the phases of a check find of an index, and the tables that they keep of it.
-use Rattle.std.specs.Prelude.{◌==◌, Bool, true, false, ◌≡◌, ◌⊎◌, ℕ, ◌<◌, ◌≤◌, List, [], ◌∷◌, ◌++◌, length, map, slice_index, slice_index_or, not, find, option_map, Option}
+use Rattle.std.specs.Prelude.{◌==◌, Bool, true, ◌≡◌, ◌⊎◌, ℕ, ◌<◌, ◌≤◌, List, [], ◌∷◌, ◌++◌, length, map, slice_index, slice_index_or, not, find, option_map, Option}
 use Rattle.hd_bytes.specs.Numbers.{number_at}
 use Rattle.std.specs.List.{list_any, list_all}
 use Rattle.hd_dbd.specs.Hierarchy.{Database}
@@ -13,7 +13,7 @@ use Rattle.hd_volume.specs.Indexes.{root_key_length, entry_room, IsAmong, IsEntr
 use Rattle.hd_index_blocks.specs.IndexSets.{sequence_blocks, index_entries}
 use Rattle.hd_image.specs.IndexFaults.{IsOfLevel, NamesBlock, first_not_above, names_a_root}
 use Rattle.hd_check_blocks.specs.declared.places.Place.{Place}
-use Rattle.hd_check_blocks.specs.Places.{IsPlaceOf}
+use Rattle.hd_check_blocks.specs.Places.{IsPlaceOf, ArePlaces}
 use Rattle.hd_check_index.specs.declared.noted_blocks.ChainedBlock.{ChainedBlock}
 use Rattle.hd_check_index.specs.declared.noted_blocks.Form.{Form}
 use Rattle.hd_index_blocks.specs.Fields.{entry_in}
@@ -157,6 +157,14 @@ IfHeaded v top height fact = top ≡ (header_of v.image).top → height ≡ (hea
 -- the fact holds if these are the index blocks of a volume, each right by itself, and this is the top block
 abbrev pub IfRightByBlock : Database → VolumeState → List ChainedBlock → ℕ → Type 0 → Type 0
 IfRightByBlock d v blocks top fact = AreIndexBlocks v blocks → top ≡ (header_of v.image).top → IsIndexRight (root_key_length d.types) v → fact
+
+-- the fact holds of each volume of a database that has these index blocks, each right by itself, with this top block and this size of blocks
+abbrev pub OfRightBlocks : List ChainedBlock → ℕ → ℕ → (Database → VolumeState → Type 0) → Type 0
+OfRightBlocks blocks top size fact = (d : Database) (v : VolumeState) → IfRightByBlock d v blocks top (IsVolumeOf d v → size ≡ v.size → fact d v)
+
+-- the fact holds of each volume of a database whose segments are at these places, and whose entries have these addresses
+abbrev pub OfNamedRoots : List Place → List ℕ → (Database → VolumeState → Type 0) → Type 0
+OfNamedRoots places named fact = (d : Database) (v : VolumeState) → ArePlaces d.types v places → AreNamed (root_key_length d.types) v named → fact d v
 
 -- the address in the first of some entries behind another whose key is not above the one to its left
 abbrev pub address_not_above : Option Entry → List Entry → Option ℕ

@@ -12,3 +12,4 @@ pub mod Counted
 pub mod IndexPhases
 pub mod LeftKeys
 pub mod Listed
+pub mod SetPhases

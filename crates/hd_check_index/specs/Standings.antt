@@ -1,5 +1,5 @@
 -- The blocks of an index set as they are noted: row by row, and by their numbers.
-use Rattle.std.specs.Prelude.{◌==◌, Bool, true, false, ◌≡◌, ℕ, ◌+◌, ◌<◌, List, [], ◌∷◌, ◌++◌, length, cond, drop, slice_index_or, Some}
+use Rattle.std.specs.Prelude.{◌==◌, Bool, true, ◌≡◌, ℕ, ◌+◌, ◌<◌, List, [], ◌∷◌, ◌++◌, length, cond, drop, slice_index_or, Some}
 use Rattle.hd_volume.specs.Indexes.{IsAmong}
 use Rattle.hd_volume.specs.Volumes.{VolumeState}
 use Rattle.hd_index_blocks.specs.Levels.{IndexBlocks}

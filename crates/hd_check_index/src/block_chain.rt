@@ -10,7 +10,7 @@ ghost use Rattle.hd_image.specs.Right.{ChainIsFormed};
 ghost use Rattle.hd_check_blocks.specs.Phases.{IsLeastOf};
 ghost use Rattle.hd_check_blocks.specs.Listing.{AreStanding};
 ghost use Rattle.hd_check_index.specs.Marks.{AreMarkedBefore, mark_at};
-ghost use Rattle.hd_check_index.specs.IndexPhases.{AreNamedOnce, IsChainable, IsWalked, AreMarks, index_block_at, IfRightByBlock};
+ghost use Rattle.hd_check_index.specs.IndexPhases.{AreNamedOnce, IsChainable, IsWalked, AreMarks, index_block_at, IfRightByBlock, OfRightBlocks};
 
 use crate::listed::fault_unless;
 use crate::noted_blocks::{ChainedBlock, block_address, position_of};
@@ -100,8 +100,7 @@ fn unmarked_faults(
     size: u32,
 ) -> Result<Vec<Fault>, Refused>
     requires as_many { length marks.now ≡ length blocks.now }
-    ensures faults { (d : Database) (v : VolumeState) (top : ℕ) → IfRightByBlock d v blocks.now top (IsVolumeOf d v → size ≡ v.size
-        → AreMarks blocks.now (entry_blocks v) marks.now → IfOk result (λ faults. AreStanding d v 10 faults.items)) }
+    ensures faults { (top : ℕ) → OfRightBlocks blocks.now top size (λ d v. AreMarks blocks.now (entry_blocks v) marks.now → IfOk result (λ faults. AreStanding d v 10 faults.items)) }
     ensures refusal { OnlyMemory result }
 {
     let mut faults = Vec::new(alloc);

@@ -7,7 +7,7 @@ ghost use Rattle.hd_image.specs.Records.{IsVolumeOf};
 ghost use Rattle.std.specs.List.Sorted.{IsPermutation, IsNonDecreasing};
 ghost use Rattle.hd_check_blocks.specs.Phases.{IsLeastOf};
 ghost use Rattle.hd_check_blocks.specs.Listing.{AreStanding};
-ghost use Rattle.hd_check_index.specs.IndexPhases.{AreNamedOnce, names_of, IfRightByBlock};
+ghost use Rattle.hd_check_index.specs.IndexPhases.{AreNamedOnce, names_of, IfRightByBlock, OfRightBlocks};
 
 use crate::listed::fault_unless;
 use crate::noted_blocks::{ChainedBlock, block_address};
@@ -38,7 +38,7 @@ pub fn twice_named_fault(
     size: u32,
 ) -> Result<Option<Fault>, Refused>
     ensures none { (d : Database) (v : VolumeState) → IfRightByBlock d v blocks.now top (IsVolumeOf d v → IfOk result (λ o. IfNone o (AreNamedOnce v))) }
-    ensures some { (d : Database) (v : VolumeState) → IfRightByBlock d v blocks.now top (IsVolumeOf d v → size ≡ v.size → IfOk result (λ o. IfSome o (λ f. IsLeastOf d v 9 f))) }
+    ensures some { OfRightBlocks blocks.now top size (λ d v. IfOk result (λ o. IfSome o (λ f. IsLeastOf d v 9 f))) }
     ensures refusal { OnlyMemory result }
 {
     let mut names = names_of(alloc, blocks, top)?;
@@ -56,8 +56,7 @@ fn twice_faults(
     names: &[u32],
     size: u32,
 ) -> Result<Vec<Fault>, Refused>
-    ensures faults { IsNonDecreasing names.now → (d : Database) (v : VolumeState) (top : ℕ) → IfRightByBlock d v blocks.now top (IsVolumeOf d v → size ≡ v.size
-        → IsPermutation (names_of top blocks.now) names.now → IfOk result (λ faults. AreStanding d v 9 faults.items)) }
+    ensures faults { IsNonDecreasing names.now → (top : ℕ) → OfRightBlocks blocks.now top size (λ d v. IsPermutation (names_of top blocks.now) names.now → IfOk result (λ faults. AreStanding d v 9 faults.items)) }
     ensures refusal { OnlyMemory result }
 {
     let mut faults = Vec::new(alloc);
@@ -78,7 +77,7 @@ pub fn twice_named_faults(
     top: u32,
     size: u32,
 ) -> Result<Vec<Fault>, Refused>
-    ensures faults { (d : Database) (v : VolumeState) → IfRightByBlock d v blocks.now top (IsVolumeOf d v → size ≡ v.size → IfOk result (λ faults. AreStanding d v 9 faults.items)) }
+    ensures faults { OfRightBlocks blocks.now top size (λ d v. IfOk result (λ faults. AreStanding d v 9 faults.items)) }
     ensures refusal { OnlyMemory result }
 {
     let mut names = names_of(alloc, blocks, top)?;

@@ -1,9 +1,8 @@
 //! The least and the greatest key below a block.
-ghost use Rattle.std.specs.Prelude.{◌≡◌, ℕ, ◌≤◌, ◌<◌, length, take, cond, List, [], ◌++◌};
-ghost use Rattle.hd_volume.specs.Entries.{Entry};
+ghost use Rattle.std.specs.Prelude.{◌≡◌, ℕ, ◌≤◌, ◌<◌, length, take, cond, List, ◌++◌};
 ghost use Rattle.hd_volume.specs.Indexes.{key_less};
 ghost use Rattle.hd_index_blocks.specs.Levels.{IndexBlocks, entries_below};
-ghost use Rattle.hd_check_index.specs.Extents.{IsExtent};
+ghost use Rattle.hd_check_index.specs.Extents.{IsExtent, OfGathered, OfKeysBetween};
 ghost use Rattle.hd_check_index.specs.BlockExtents.{AreExtents, IsExtentBelow};
 ghost use Rattle.hd_check_index.specs.Counted.{OfSomeEntries};
 
@@ -58,8 +57,7 @@ fn raise(place: &mut [u8; 255], key: &[u8], is_first: bool)
 fn widen(count: usize, extent: &mut Extent, least: &[u8], greatest: &[u8], key_length: usize)
     requires short { key_length ≤ 255 }
     requires whole { (length least.now ≡ key_length) × (length greatest.now ≡ key_length) }
-    ensures { (es fs : List Entry) (more : Extent) → take key_length more.least ≡ least.now → take key_length more.greatest ≡ greatest.now
-        → (count ≡ 0 → es ≡ []) → (0 < count → IsExtent key_length extent.old es) → IsExtent key_length more fs → IsExtent key_length extent.new (es ++ fs) }
+    ensures { OfGathered key_length count extent.old (λ es. OfKeysBetween key_length least.now greatest.now (λ more. IsExtent key_length extent.new (es ++ more))) }
 {
     let _ = key_length;
     let is_first = count == 0;

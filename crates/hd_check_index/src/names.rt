@@ -10,14 +10,13 @@ ghost use Rattle.hd_index_blocks.specs.Levels.{named};
 ghost use Rattle.hd_index_blocks.specs.Faultless.{IsFormRight, AreFormsRight};
 ghost use Rattle.hd_index_blocks.specs.LevelFaults.{IsNamedTwice};
 ghost use Rattle.hd_index_blocks.specs.Fields.{CountFits};
-ghost use Rattle.hd_dbd.specs.Hierarchy.{Database};
-ghost use Rattle.hd_volume.specs.Volumes.{VolumeState};
 ghost use Rattle.hd_volume.specs.Indexes.{root_key_length};
 ghost use Rattle.hd_image.specs.Records.{IsVolumeOf};
 ghost use Rattle.hd_check_blocks.specs.Listing.{AreStanding};
 ghost use Rattle.hd_check_index.specs.Tables.{AreIndexBlocks};
 ghost use Rattle.hd_check_index.specs.NamedBlocks.{names_in, names_of};
 ghost use Rattle.hd_check_index.specs.Judging.{IsFoundAt, WhereFound};
+ghost use Rattle.hd_check_index.specs.SetPhases.{OfFormedSet, set_names};
 
 use crate::listed::fault_unless;
 use crate::table::NotedBlock;
@@ -122,8 +121,7 @@ fn twice_faults(
     names: &[u32],
     size: u32,
 ) -> Result<Vec<Fault>, Refused>
-    ensures faults { IsNonDecreasing names.now → (d : Database) (v : VolumeState) → IsVolumeOf d v → (header_of v.image).version ≢ 1 → AreIndexBlocks v blocks.now → AreFormsRight (root_key_length d.types) v → size ≡ v.size
-        → IsPermutation (names_of (root_key_length d.types) v (header_of v.image).top blocks.now) names.now → IfOk result (λ faults. AreStanding d v 9 faults.items) }
+    ensures faults { IsNonDecreasing names.now → OfFormedSet blocks.now (λ d v. size ≡ v.size → IsPermutation (set_names d v blocks.now) names.now → IfOk result (λ faults. AreStanding d v 9 faults.items)) }
     ensures refusal { OnlyMemory result }
 {
     let mut faults = Vec::new(alloc);

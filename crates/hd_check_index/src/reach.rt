@@ -1,11 +1,8 @@
 //! Phase 10: each index block is reached from the top.
-ghost use Rattle.std.specs.Prelude.{◌≡◌, ◌≢◌, ◌<◌, ℕ, List, length, replicate, false, IfOk, IfNone, IfSome};
+ghost use Rattle.std.specs.Prelude.{◌≡◌, ◌<◌, ℕ, length, replicate, false, IfOk, IfNone, IfSome};
 ghost use Rattle.hd_dbd.specs.Refusals.{OnlyMemory};
-ghost use Rattle.hd_dbd.specs.Hierarchy.{Database};
-ghost use Rattle.hd_volume.specs.Headers.{header_of};
 ghost use Rattle.hd_volume.specs.Volumes.{VolumeState};
 ghost use Rattle.hd_volume.specs.Indexes.{root_key_length};
-ghost use Rattle.hd_image.specs.Records.{IsVolumeOf};
 ghost use Rattle.hd_check_blocks.specs.Listing.{AreStanding};
 ghost use Rattle.hd_index_blocks.specs.Faultless.{AreFormsRight};
 ghost use Rattle.hd_index_blocks.specs.LevelFaults.{IsUnreachedBlock};
@@ -15,6 +12,7 @@ ghost use Rattle.hd_check_index.specs.Judging.{IsFoundAt};
 ghost use Rattle.hd_check_index.specs.NotedBlocks.{noted_at};
 ghost use Rattle.hd_check_index.specs.Marks.{AreMarkedBefore, mark_at};
 ghost use Rattle.hd_check_index.specs.Standings.{AreMarks, numbers_of};
+ghost use Rattle.hd_check_index.specs.SetPhases.{OfIndexSet, OfItsRows};
 
 use crate::listed::fault_unless;
 use crate::rows::Standing;
@@ -83,8 +81,7 @@ fn unmarked_faults(
     size: u32,
 ) -> Result<Vec<Fault>, Refused>
     requires as_many { length marks.now ≡ length blocks.now }
-    ensures faults { (d : Database) (v : VolumeState) → IsVolumeOf d v → (header_of v.image).version ≢ 1 → AreIndexBlocks v blocks.now → size ≡ v.size
-        → (rows : List Standing) → AreRows (root_key_length d.types) v rows → AreMarks blocks.now (numbers_of rows) marks.now → IfOk result (λ faults. AreStanding d v 10 faults.items) }
+    ensures faults { OfIndexSet blocks.now (λ d v. size ≡ v.size → OfItsRows d v (λ rows. AreMarks blocks.now (numbers_of rows) marks.now → IfOk result (λ faults. AreStanding d v 10 faults.items))) }
     ensures refusal { OnlyMemory result }
 {
     let mut faults = Vec::new(alloc);
@@ -105,8 +102,7 @@ pub fn set_reach_faults(
     rows: &[Standing],
     size: u32,
 ) -> Result<Vec<Fault>, Refused>
-    ensures faults { (d : Database) (v : VolumeState) → IsVolumeOf d v → (header_of v.image).version ≢ 1 → AreIndexBlocks v blocks.now → AreRows (root_key_length d.types) v rows.now → size ≡ v.size
-        → IfOk result (λ faults. AreStanding d v 10 faults.items) }
+    ensures faults { OfIndexSet blocks.now (λ d v. AreRows (root_key_length d.types) v rows.now → size ≡ v.size → IfOk result (λ faults. AreStanding d v 10 faults.items)) }
     ensures refusal { OnlyMemory result }
 {
     let mut marks = no_marks(alloc, blocks.len())?;

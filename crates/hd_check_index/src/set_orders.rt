@@ -1,21 +1,20 @@
 //! Phase 11 of an index set: all that is out of order on its levels.
 ghost use Rattle.std.specs.Prelude.{◌≡◌, ◌≢◌, ℕ, ◌*◌, ◌≤◌, ◌<◌, length, [], Some, IsTrue, IfOk, OnOk};
 ghost use Rattle.hd_dbd.specs.Refusals.{OnlyMemory, OnlyDeviceOrMemory};
-ghost use Rattle.hd_dbd.specs.Hierarchy.{Database};
 ghost use Rattle.hd_volume.specs.Headers.{header_of};
-ghost use Rattle.hd_volume.specs.Volumes.{VolumeState};
 ghost use Rattle.hd_volume.specs.Calls.{IsRead};
 ghost use Rattle.hd_volume.specs.Indexes.{root_key_length};
 ghost use Rattle.hd_index_blocks.specs.IndexSets.{level_in, index_blocks};
 ghost use Rattle.hd_index_blocks.specs.Faultless.{AreFormsRight};
 ghost use Rattle.hd_index_blocks.specs.LevelFaults.{IsWrongNext, HasEntryOutOfOrder};
 ghost use Rattle.hd_image.specs.Records.{IsVolumeOf};
-ghost use Rattle.hd_check_blocks.specs.Listing.{AreStanding, AllStand, IsListed};
+ghost use Rattle.hd_check_blocks.specs.Listing.{AreStanding, AllStand};
 ghost use Rattle.hd_check_index.specs.Tables.{AreIndexBlocks};
 ghost use Rattle.hd_check_index.specs.Rows.{AreRows};
 ghost use Rattle.hd_check_index.specs.BlockExtents.{AreExtents};
-ghost use Rattle.hd_check_index.specs.EntryOrders.{OfRow, IsWrongUpTo, standing_at};
-ghost use Rattle.hd_check_index.specs.Listed.{AtAddress, AreOrdersListed};
+ghost use Rattle.hd_check_index.specs.EntryOrders.{OfRow, standing_at};
+ghost use Rattle.hd_check_index.specs.Listed.{AreOrdersListed};
+ghost use Rattle.hd_check_index.specs.SetPhases.{OfFormedSet, AllListed, IsRowListed};
 
 use crate::extents::Extent;
 use crate::listed::{fault_naming, fault_unless, in_order};
@@ -38,10 +37,8 @@ fn next_faults(
     rows: &[Standing],
     size: u32,
 ) -> Result<Vec<Fault>, Refused>
-    ensures stand { (d : Database) (v : VolumeState) → IsVolumeOf d v → (header_of v.image).version ≢ 1 → AreIndexBlocks v blocks.now → AreFormsRight (root_key_length d.types) v → AreRows (root_key_length d.types) v rows.now
-        → size ≡ v.size → IfOk result (λ faults. AllStand d v 11 faults.items) }
-    ensures all { (d : Database) (v : VolumeState) → IsVolumeOf d v → (header_of v.image).version ≢ 1 → AreIndexBlocks v blocks.now → AreFormsRight (root_key_length d.types) v → AreRows (root_key_length d.types) v rows.now
-        → size ≡ v.size → IfOk result (λ faults. (address other : ℕ) → IsWrongNext (root_key_length d.types) v address other → IsListed Line.WrongNext address faults.items) }
+    ensures stand { OfFormedSet blocks.now (λ d v. AreRows (root_key_length d.types) v rows.now → size ≡ v.size → IfOk result (λ faults. AllStand d v 11 faults.items)) }
+    ensures all { OfFormedSet blocks.now (λ d v. AreRows (root_key_length d.types) v rows.now → size ≡ v.size → IfOk result (λ faults. AllListed Line.WrongNext (IsWrongNext (root_key_length d.types) v) faults.items)) }
     ensures refusal { OnlyMemory result }
 {
     let mut faults = Vec::new(alloc);
@@ -75,7 +72,7 @@ fn list_row<S: BlockStore>(
     requires fits { IsTrue volume.old.is_sound → (n l : ℕ) → level_in volume.old n ≡ Some l → n * size < 4294967296 }
     ensures read { IsRead volume.old result volume.new }
     ensures own { OnOk result (IsTrue volume.old.is_sound → OfRow (index_blocks key_length volume.old) key_length level row.now below.now (λ c ns. AreExtents key_length c level ns own.new.items)) }
-    ensures faults { OnOk result (IsTrue volume.old.is_sound → OfRow (index_blocks key_length volume.old) key_length level row.now below.now (λ c ns. AreOrdersListed (AtAddress size (IsWrongUpTo c level ns (length ns))) faults.old.items faults.new.items)) }
+    ensures faults { OnOk result (IsTrue volume.old.is_sound → OfRow (index_blocks key_length volume.old) key_length level row.now below.now (λ c ns. IsRowListed size c level ns faults.old.items faults.new.items)) }
     ensures refusal { OnlyDeviceOrMemory result }
 {
     let mut left = Left {

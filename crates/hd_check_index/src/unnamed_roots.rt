@@ -2,14 +2,12 @@
 ghost use Rattle.std.specs.Prelude.{◌≡◌, ◌<◌, ℕ, List, length, IfOk, IfNone, IfSome};
 ghost use Rattle.std.specs.List.Sorted.{IsPermutation, IsNonDecreasing};
 ghost use Rattle.hd_dbd.specs.Refusals.{OnlyMemory};
-ghost use Rattle.hd_dbd.specs.Hierarchy.{Database};
-ghost use Rattle.hd_volume.specs.Volumes.{VolumeState};
-ghost use Rattle.hd_volume.specs.Indexes.{root_key_length, IsAmong};
+ghost use Rattle.hd_volume.specs.Indexes.{IsAmong};
 ghost use Rattle.hd_check_blocks.specs.Phases.{IsLeastOf};
 ghost use Rattle.hd_check_blocks.specs.Listing.{AreStanding};
-ghost use Rattle.hd_check_blocks.specs.Places.{ArePlaces, PlacesAscend};
+ghost use Rattle.hd_check_blocks.specs.Places.{PlacesAscend};
 ghost use Rattle.hd_check_index.specs.Listed.{IsUnnamed};
-ghost use Rattle.hd_check_index.specs.IndexPhases.{AreNamed, AreRootsAmong, IsFirstUnnamed, AllRootsNamed};
+ghost use Rattle.hd_check_index.specs.IndexPhases.{AreRootsAmong, IsFirstUnnamed, AllRootsNamed, OfNamedRoots};
 
 use hd_check_blocks::{Fault, Place, list_fault};
 use hd_dbd::Refused;
@@ -50,8 +48,8 @@ fn unnamed_root(named: &[u32], places: &[Place]) -> Option<u32>
 
 /// The first root that no entry names.
 pub fn unnamed_root_fault(named: &mut Vec<u32>, places: &[Place]) -> Option<Fault>
-    ensures none { (d : Database) (v : VolumeState) → ArePlaces d.types v places.now → AreNamed (root_key_length d.types) v named.old.items → IfNone result (AllRootsNamed d v) }
-    ensures some { (d : Database) (v : VolumeState) → ArePlaces d.types v places.now → AreNamed (root_key_length d.types) v named.old.items → IfSome result (λ f. IsLeastOf d v 13 f) }
+    ensures none { OfNamedRoots places.now named.old.items (λ d v. IfNone result (AllRootsNamed d v)) }
+    ensures some { OfNamedRoots places.now named.old.items (λ d v. IfSome result (λ f. IsLeastOf d v 13 f)) }
 {
     named.sort_unstable();
     match unnamed_root(named, places) {
@@ -80,8 +78,7 @@ fn root_fault(named: &[u32], place: Place, near: &mut usize) -> Option<Fault>
 
 /// All roots whose addresses are none of these, which are in order.
 fn root_faults(alloc: Global, named: &[u32], places: &[Place]) -> Result<Vec<Fault>, Refused>
-    ensures faults { IsNonDecreasing named.now → (d : Database) (v : VolumeState) (old : List ℕ) → ArePlaces d.types v places.now → AreNamed (root_key_length d.types) v old → IsPermutation old named.now
-        → IfOk result (λ faults. AreStanding d v 13 faults.items) }
+    ensures faults { IsNonDecreasing named.now → (old : List ℕ) → OfNamedRoots places.now old (λ d v. IsPermutation old named.now → IfOk result (λ faults. AreStanding d v 13 faults.items)) }
     ensures refusal { OnlyMemory result }
 {
     let mut faults = Vec::new(alloc);
@@ -98,7 +95,7 @@ pub fn unnamed_root_faults(
     named: &mut Vec<u32>,
     places: &[Place],
 ) -> Result<Vec<Fault>, Refused>
-    ensures faults { (d : Database) (v : VolumeState) → ArePlaces d.types v places.now → AreNamed (root_key_length d.types) v named.old.items → IfOk result (λ faults. AreStanding d v 13 faults.items) }
+    ensures faults { OfNamedRoots places.now named.old.items (λ d v. IfOk result (λ faults. AreStanding d v 13 faults.items)) }
     ensures refusal { OnlyMemory result }
 {
     named.sort_unstable();

@@ -1,13 +1,10 @@
-use Rattle.std.proofs.Common.{◌≡◌, ℕ}
-use Rattle.hd_dbd.specs.Hierarchy.{Database}
-use Rattle.hd_volume.specs.Volumes.{VolumeState}
+use Rattle.std.proofs.Common.{ℕ}
 use Rattle.hd_volume.specs.Entries.{entry_blocks}
-use Rattle.hd_image.specs.Records.{IsVolumeOf}
-use Rattle.hd_check_index.specs.IndexPhases.{IfRightByBlock, AreMarks}
+use Rattle.hd_check_index.specs.IndexPhases.{OfRightBlocks, AreMarks}
 use Rattle.hd_check_index.proofs.ChainLists.{AreListedTo}
 use Rattle.hd_check_index.proofs.block_chain.unmarked_faults.Given as goal
 
 -- the blocks before that have no mark are listed
 abbrev pub invariant-loop-i : goal.invariant-loop-i
 invariant-loop-i l =
-    (d : Database) (v : VolumeState) (top : ℕ) → IfRightByBlock d v l.blocks top (IsVolumeOf d v → l.size ≡ v.size → AreMarks l.blocks (entry_blocks v) l.marks → AreListedTo d v 10 l.blocks l.i l.faults.items)
+    (top : ℕ) → OfRightBlocks l.blocks top l.size (λ d v. AreMarks l.blocks (entry_blocks v) l.marks → AreListedTo d v 10 l.blocks l.i l.faults.items)

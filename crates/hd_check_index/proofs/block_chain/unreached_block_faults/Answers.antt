@@ -14,4 +14,4 @@ returns-clause-faults c = λ d v table top right once of size.
     let walked : IsWalked v c.args.top bs c.walk.new.chain.items c.walk.new.marks.items = c.in_ok-walk.ensures.walked (root_key_length d.types) v h in
     let own : AreMarks bs (entry_blocks v) c.walk.new.marks.items =
     subst (λ (ns : List ℕ). AreMarks bs ns c.walk.new.marks.items) (walked-chain d v bs c.args.top h of c.walk.new.chain.items c.walk.new.marks.items walked) walked.are_marks in
-    c.unmarked_faults.ensures.faults d v c.args.top table top right of size (subst (λ (ms : List Bool). AreMarks bs (entry_blocks v) ms) (sym view) own)
+    c.unmarked_faults.ensures.faults c.args.top d v table top right of size (subst (λ (ms : List Bool). AreMarks bs (entry_blocks v) ms) (sym view) own)

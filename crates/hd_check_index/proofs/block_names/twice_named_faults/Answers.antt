@@ -12,4 +12,4 @@ returns-clause-faults c = λ d v h top right of size.
     let view : c.deref.result.now ≡ s = c.deref.ensures.value in
     let up : IsNonDecreasing s = IsNonDecreasingBy-from_sort (λ x. x) s c.sort_unstable.ensures.sorted in
     let moved : IsPermutation (names_of c.args.top bs) s = subst (λ (xs : List ℕ). IsPermutation xs s) c.in_ok-names.ensures.value c.sort_unstable.ensures.permutation in
-    c.twice_faults.ensures.faults (subst (λ (xs : List ℕ). IsNonDecreasing xs) (sym view) up) d v c.args.top h top right of size (subst (λ (xs : List ℕ). IsPermutation (names_of c.args.top bs) xs) (sym view) moved)
+    c.twice_faults.ensures.faults (subst (λ (xs : List ℕ). IsNonDecreasing xs) (sym view) up) c.args.top d v h top right of size (subst (λ (xs : List ℕ). IsPermutation (names_of c.args.top bs) xs) (sym view) moved)

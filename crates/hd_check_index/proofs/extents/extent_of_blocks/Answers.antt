@@ -19,8 +19,8 @@ loop-index-preserved c = record {
       let both : entries_below b l (take (i + 1) ns) ≡ entries_below b l (take i ns) ++ entries_below b l (n ∷ []) = ap (entries_below b l) more ∙ entries-append b l (take i ns) (n ∷ []) in
       let E : List Entry → Type 0 = λ t. IsExtent k c.widen.new.extent t in
       subst E (sym both)
-      (c.widen.ensures (entries_below b l (take i ns)) (entries_below b l (n ∷ [])) _ refl refl
-      (λ z. ap (λ (j : ℕ). entries_below b l (take j ns)) z ∙ entries-none b l) (c.loop-index.invariant.extent b l ns h) (extents-at k b l ns c.args.blocks.now i _ h less)));
+      (c.widen.ensures (entries_below b l (take i ns)) (λ z. ap (λ (j : ℕ). entries_below b l (take j ns)) z ∙ entries-none b l) (c.loop-index.invariant.extent b l ns h)
+      (entries_below b l (n ∷ [])) _ refl refl (extents-at k b l ns c.args.blocks.now i _ h less)));
 }
 
 pub returns : goal.returns

@@ -23,7 +23,7 @@ loop-index-preserved c =
     let own : take k key ≡ key = is ∙ sym c.key-key.ensures.value in
     let E : List Entry → Type 0 = λ t. IsExtent k c.widen.new.extent t in
     record {
-      extent = λ some. subst E (sym (entries-more k b 12 n)) (c.widen.ensures es (e ∷ []) x own own (λ z. ap (entries_at k b 12) z) c.loop-index.invariant.extent (extent-one k x e is is));
+      extent = λ some. subst E (sym (entries-more k b 12 n)) (c.widen.ensures es (λ z. ap (entries_at k b 12) z) c.loop-index.invariant.extent (e ∷ []) x own own (extent-one k x e is is));
     }
 
 pub returns : goal.returns

@@ -10,7 +10,7 @@ some-of zero e = cc
 some-of (suc n) e = omega arith
 
 pub returns : goal.returns
-returns c = λ es fs more own_least own_greatest none some whole.
+returns c = λ es none some fs more own_least own_greatest whole.
     let k : ℕ = c.args.key_length in
     let n : ℕ = c.args.count in
     let x : Extent = c.args.extent.now in

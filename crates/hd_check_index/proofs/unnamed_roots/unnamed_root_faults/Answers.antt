@@ -8,4 +8,4 @@ returns-clause-faults c = λ d v places named.
     let s : List ℕ = c.sort_unstable.new.self.items in
     let view : c.deref.result.now ≡ s = c.deref.ensures.value in
     let up : IsNonDecreasing c.deref.result.now = subst (λ (xs : List ℕ). IsNonDecreasing xs) (sym view) (IsNonDecreasingBy-from_sort (λ x. x) s c.sort_unstable.ensures.sorted) in
-    c.root_faults.ensures.faults up d v c.args.named.now.items places named (subst (λ (xs : List ℕ). IsPermutation c.args.named.now.items xs) (sym view) c.sort_unstable.ensures.permutation)
+    c.root_faults.ensures.faults up c.args.named.now.items d v places named (subst (λ (xs : List ℕ). IsPermutation c.args.named.now.items xs) (sym view) c.sort_unstable.ensures.permutation)
