@@ -1,8 +1,7 @@
 -- What each phase finds right excludes the faults of its lines.
-use Rattle.std.proofs.Common.{◌≡◌, inl, inr, ℕ, ◌+◌, ◌<◌, true, refl, sym, ◌∙◌, arith}
-use Rattle.std.specs.Prelude.{◌==◌}
-use Rattle.std.specs.List.{list_all, list_any}
-use Rattle.std.proofs.lemmas.Bool.{cases_lt, false≢true}
+use Rattle.std.proofs.Common.{◌≡◌, inl, inr, ℕ, ◌+◌, ◌≤◌, true, ◌∙◌, arith}
+use Rattle.std.specs.List.{list_all}
+use Rattle.std.proofs.lemmas.Bool.{cases_lt}
 use Rattle.hd_dbd.specs.Hierarchy.{Database}
 use Rattle.hd_volume.specs.Headers.{header_of}
 use Rattle.hd_volume.specs.Volumes.{VolumeState}
@@ -14,9 +13,9 @@ use Rattle.hd_links.specs.Pointers.{PointersAreTyped, PredecessorsAreOne, TwinsL
 use Rattle.hd_image.specs.Records.{links_of, IsVolumeOf}
 use Rattle.hd_image.specs.IndexFaults.{names_a_root, IsWrongTop, IsWrongForm}
 use Rattle.hd_image.specs.Right.{ChainIsFormed, IndexIsFormed, IndexIsInOrder}
-use Rattle.hd_image.specs.Standing.{Stands, phase_of, number_of, ComesBefore}
+use Rattle.hd_image.specs.Standing.{Stands, phase_of}
 use Rattle.hd_image.specs.declared.line.Line.{Line}
-use Rattle.hd_image.specs.declared.line.Line.TheVariants.{NoVolume, NoVersion, AnotherDatabase, WrongChain, WrongPlace, NoKind, Deleted, NamesNothing, NamesAnother, TwoPredecessors, NoPredecessor, WrongBackward, WrongLast, OutOfOrder, NotReached, WrongTop, WrongForm, NamedTwice, UnreachedBlock, WrongNext, EntryOutOfOrder, WrongEntry, NoEntry}
+use Rattle.hd_image.specs.declared.line.Line.TheVariants.{NoVolume, NoVersion, AnotherDatabase, WrongBackward, WrongLast, OutOfOrder, NotReached}
 use Rattle.hd_image.proofs.Roots.{header-code}
 use Rattle.hd_image.proofs.BlockNoFault.{none-wrong-chain, none-wrong-place}
 use Rattle.hd_image.proofs.PointerNoFault as pointer
@@ -25,11 +24,12 @@ use Rattle.hd_check_blocks.specs.declared.fault.Fault.{Fault}
 use Rattle.hd_check_blocks.specs.Phases.{IsHeaderRight, AreBlocksRight, IsLeastOf}
 use Rattle.hd_check_index.specs.IndexPhases.{IsIndexRight, AreNamedOnce}
 use Rattle.hd_check.specs.Joining.{NoneBefore, IsFirstFault}
+use Rattle.hd_check.specs.Lists.{NoneOfIndexBefore}
 use Rattle.hd_check_blocks.proofs.HeaderFaults.{first-lines}
 use Rattle.hd_check_blocks.proofs.BlockFaults.{second-lines}
 use Rattle.hd_check_pointers.proofs.TypedRecords.{third-lines}
 use Rattle.hd_check_pointers.proofs.OneEach.{fourth-lines}
-use Rattle.hd_check_index.proofs.LateLines.{stands-8, stands-9, stands-10, stands-11, stands-12, stands-13}
+use Rattle.hd_check_index.proofs.LateLines.{stands-8, stands-9, stands-10, stands-11, stands-12}
 
 -- a line of the fifth phase
 fifth-lines : (P : Line → Type 0) → P WrongBackward → P WrongLast → (k : Line) → phase_of k ≡ 5 → P k
@@ -116,6 +116,26 @@ module _ (d : Database) (v : VolumeState) where
   pub none-8 : NoneBefore d v 7 → ((a : ℕ) → IsSegment (links_of d.types v) a → (n : ℕ) × IsReached d.types (links_of d.types v) n a) → NoneBefore d v 8
   none-8 none h = next 7 none (λ k a o is. seventh-line (λ x. Stands d v x a o → ⊥) (pointer.none-unreached d.types (links_of d.types v) h a o) k is)
 
+  -- ---- an index, whatever is wrong before it
+
+  -- no line of an index is of a phase before the eighth
+  pub none-of-index : NoneOfIndexBefore d v 8
+  none-of-index k a o high low s = absurd (omega arith)
+
+  -- where none of the next phase stands either
+  pub next-of-index : (p : ℕ) → NoneOfIndexBefore d v p → ((k : Line) (a o : ℕ) → phase_of k ≡ p → Stands d v k a o → ⊥) → NoneOfIndexBefore d v (p + 1)
+  next-of-index p none here k a o high l s = elim (cases_lt (phase_of k) p) [
+    | inl low ↦ none k a o high low s
+    | inr up ↦ here k a o (omega arith) s
+  ]
+
+  -- where none stands before the index, and none of the index does, none of all does
+  pub none-of-all : (p q : ℕ) → 8 ≤ p → NoneBefore d v p → NoneOfIndexBefore d v q → NoneBefore d v q
+  none-of-all p q late none index k a o l s = elim (cases_lt (phase_of k) p) [
+    | inl low ↦ none k a o low s
+    | inr up ↦ index k a o (omega arith) l s
+  ]
+
   -- a right index has a right top
   right-top : (a o : ℕ) → IsIndexRight (root_key_length d.types) v → IsWrongTop v a o → ⊥
   right-top a o h f = elim h.height [
@@ -144,36 +164,37 @@ module _ (d : Database) (v : VolumeState) where
       ]
 
   -- the index is right, block by block
-  pub none-9 : NoneBefore d v 8 → IsIndexRight (root_key_length d.types) v → NoneBefore d v 9
-  none-9 none h = next 8 none (λ k a o is s. elim (stands-8 d v k a o h.version is s) [ inl top ↦ right-top a o h top | inr form ↦ right-form a o h form ])
+  pub none-9 : IsIndexRight (root_key_length d.types) v → NoneOfIndexBefore d v 9
+  none-9 h = next-of-index 8 none-of-index (λ k a o is s. elim (stands-8 d v k a o h.version is s) [ inl top ↦ right-top a o h top | inr form ↦ right-form a o h form ])
 
   -- no block is named twice
-  pub none-10 : NoneBefore d v 9 → (header_of v.image).version ≡ 1 → AreNamedOnce v → NoneBefore d v 10
-  none-10 none one h = next 9 none (λ k a o is s. (let f = stands-9 d v k a o one is s in f.6 (h f.0 f.1 f.2 f.3 f.4 f.5)))
+  pub none-10 : NoneOfIndexBefore d v 9 → (header_of v.image).version ≡ 1 → AreNamedOnce v → NoneOfIndexBefore d v 10
+  none-10 none one h = next-of-index 9 none (λ k a o is s. (let f = stands-9 d v k a o one is s in f.6 (h f.0 f.1 f.2 f.3 f.4 f.5)))
 
   -- each block is reached
-  pub none-11 : NoneBefore d v 10 → (header_of v.image).version ≡ 1 → ChainIsFormed (root_key_length d.types) v → NoneBefore d v 11
-  none-11 none one h = next 10 none (λ k a o is s. (let f = stands-10 d v k a o one is s in f.2 (h.reached f.0 f.1)))
+  pub none-11 : NoneOfIndexBefore d v 10 → (header_of v.image).version ≡ 1 → ChainIsFormed (root_key_length d.types) v → NoneOfIndexBefore d v 11
+  none-11 none one h = next-of-index 10 none (λ k a o is s. (let f = stands-10 d v k a o one is s in f.2 (h.reached f.0 f.1)))
 
   -- the keys of the entries ascend
-  chain-12 : NoneBefore d v 11 → IsVolumeOf d v → (header_of v.image).version ≡ 1 → ChainIsFormed (root_key_length d.types) v → keys_ascend (entries (root_key_length d.types) v) ≡ true → NoneBefore d v 12
+  chain-12 : NoneOfIndexBefore d v 11 → IsVolumeOf d v → (header_of v.image).version ≡ 1 → ChainIsFormed (root_key_length d.types) v → keys_ascend (entries (root_key_length d.types) v) ≡ true
+      → NoneOfIndexBefore d v 12
   chain-12 none of known formed h =
       let has : HasIndex (root_key_length d.types) v = record { formatted = of.formatted; version = known; height = formed.height; chain = formed.chain; reached = formed.reached; ascend = h } in
-      next 11 none (λ k a o is s. index.none-out-of-order (root_key_length d.types) v has a o (stands-11 d v k a o known is s).0)
+      next-of-index 11 none (λ k a o is s. index.none-out-of-order (root_key_length d.types) v has a o (stands-11 d v k a o known is s).0)
 
   -- no fault of the blocks of an index and of their order stands in a volume whose index is formed and in order
-  pub none-12 : NoneBefore d v 8 → IsVolumeOf d v → (header_of v.image).version ≡ 1 → IndexIsFormed (root_key_length d.types) v → IndexIsInOrder (root_key_length d.types) v → NoneBefore d v 12
-  none-12 none of one (inl f) (inl o) =
+  pub none-12 : IsVolumeOf d v → (header_of v.image).version ≡ 1 → IndexIsFormed (root_key_length d.types) v → IndexIsInOrder (root_key_length d.types) v → NoneOfIndexBefore d v 12
+  none-12 of one (inl f) (inl o) =
       let has : HasIndex (root_key_length d.types) v = record { formatted = of.formatted; version = one; height = f.1.height; chain = f.1.chain; reached = f.1.reached; ascend = o.1 } in
-      let nine : NoneBefore d v 9 =
-      next 8 none
+      let nine : NoneOfIndexBefore d v 9 =
+      next-of-index 8 none-of-index
       (λ k a x is s. elim (stands-8 d v k a x one is s) [ inl t ↦ index.none-wrong-top (root_key_length d.types) v has a x t | inr t ↦ index.none-wrong-form (root_key_length d.types) v has a x t ]) in
-      let ten : NoneBefore d v 10 = next 9 nine (λ k a x is s. index.none-twice (root_key_length d.types) v has a x (stands-9 d v k a x one is s)) in
+      let ten : NoneOfIndexBefore d v 10 = next-of-index 9 nine (λ k a x is s. index.none-twice (root_key_length d.types) v has a x (stands-9 d v k a x one is s)) in
       chain-12 (none-11 ten one f.1) of one f.1 o.1
-  none-12 none of one (inl f) (inr o) = absurd (o.0 one)
-  none-12 none of one (inr f) o = absurd (f.0 one)
+  none-12 of one (inl f) (inr o) = absurd (o.0 one)
+  none-12 of one (inr f) o = absurd (f.0 one)
 
   -- each entry names a root
-  pub none-13 : NoneBefore d v 12 → list_all (λ e. names_a_root d (links_of d.types v) e) (index_entries (root_key_length d.types) v) ≡ true → NoneBefore d v 13
-  none-13 none h = next 12 none
+  pub none-13 : NoneOfIndexBefore d v 12 → list_all (λ e. names_a_root d (links_of d.types v) e) (index_entries (root_key_length d.types) v) ≡ true → NoneOfIndexBefore d v 13
+  none-13 none h = next-of-index 12 none
       (λ k a o is s. (let w = stands-12 d v k a o is s in index.none-found (λ e. names_a_root d (links_of d.types v) e) (root_key_length d.types) v (sequence_blocks (root_key_length d.types) v) w.0 o h w.1 w.2))

@@ -1,5 +1,5 @@
 -- Faults of the first phase that finds any.
-use Rattle.std.proofs.Common.{◌≡◌, ◌≢◌, ◌⊎◌, inl, inr, ℕ, ◌<◌, ◌+◌, ◌*◌, ◌≤◌, List, [], ◌∷◌, length, true, IsTrue, Option, Some, None, IfSome, refl, sym, ap, subst, ◌∙◌, arith}
+use Rattle.std.proofs.Common.{◌≡◌, ◌≢◌, inl, inr, ℕ, ◌+◌, ◌*◌, List, [], ◌∷◌, length, true, IsTrue, Option, Some, None, IfSome, refl, sym, subst, arith}
 use Rattle.std.specs.Prelude.{is_some}
 use Rattle.std.proofs.lemmas.Bool.{cases_lt}
 use Rattle.hd_bytes.specs.Blocks.{HasBlock}
@@ -8,12 +8,12 @@ use Rattle.hd_dbd.specs.DatabaseRules.{well_formed}
 use Rattle.hd_volume.specs.Headers.{HasHeader, header_of}
 use Rattle.hd_volume.specs.Volumes.{VolumeState}
 use Rattle.hd_volume.proofs.PutLemmas.{if-some-map}
-use Rattle.hd_image.specs.Standing.{Stands, phase_of, number_of, ComesBefore}
+use Rattle.hd_image.specs.Standing.{phase_of, ComesBefore}
 use Rattle.hd_image.specs.declared.line.Line.{Line}
 use Rattle.hd_image.specs.declared.line.Line.TheVariants.{NoVolume}
 use Rattle.hd_check_blocks.specs.declared.fault.Fault.{Fault}
 use Rattle.hd_check_blocks.specs.Phases.{IsLeastOf}
-use Rattle.hd_check_blocks.specs.Listing.{IsListed, AllStand, ComesBeforeAll, FaultsAscend, AreStanding}
+use Rattle.hd_check_blocks.specs.Listing.{IsListed, AllStand, ComesBeforeAll, AreStanding}
 use Rattle.hd_check_blocks.proofs.HeaderFaults.{wrong-first}
 use Rattle.hd_check_blocks.specs.declared.places.Place.{Place}
 use Rattle.hd_check.specs.Joining.{NoneBefore, IsFirstFault, IsFoundRight, roots_among}
@@ -83,6 +83,24 @@ listed-first d v p (f ∷ fs) before all some = first-faults d v p before f (f �
   ];
 }) all
 
+-- where a fault of a phase was found some are listed
+pub some-listed : (d : Database) (v : VolumeState) (p : ℕ) (found : Option Fault) (fs : List Fault) → is_some found ≡ true → IfSome found (λ f. IsLeastOf d v p f) → AreStanding d v p fs → fs ≢ []
+some-listed d v p None fs is least all = cc
+some-listed d v p (Some f) fs is least all = λ e. subst (IsListed f.line f.address) e (all.all f.line f.address f.other least.of least.stands)
+
+-- and the first of them is of the phase
+first-in : (P : ℕ → Type 0) (d : Database) (v : VolumeState) (p : ℕ) (fs : List Fault) → P p → AllStand d v p fs → fs ≢ [] → BeginsWith (λ f. P (phase_of f.line)) fs
+first-in P d v p [] h stand some = absurd (some refl)
+first-in P d v p (f ∷ fs) h stand some = subst P (sym stand.0) h
+
+-- also of those of the header
+pub header-in : (P : ℕ → Type 0) (d : Database) (v : VolumeState) (found : Option Fault) (fs : List Fault) → P 1 → is_some found ≡ true → IfSome found (λ f. IsLeastOf d v 1 f)
+    → (HasBlock v.size v.image 0 → AreStanding d v 1 fs) → ((HasBlock v.size v.image 0 → ⊥) → fs ≡ record { line = NoVolume; address = 0; other = 0 } ∷ []) → BeginsWith (λ f. P (phase_of f.line)) fs
+header-in P d v found fs h is least all alone = elim (cases_lt (length v.image) (0 * v.size + v.size)) [
+  | inl short ↦ (let none : HasBlock v.size v.image 0 → ⊥ = (λ there. omega arith) in subst (BeginsWith (λ f. P (phase_of f.line))) (sym (alone none)) h)
+  | inr long ↦ (let here = all (omega arith) in first-in P d v 1 fs h here.stand (some-listed d v 1 found fs is least here))
+]
+
 -- what is said of what was found, where something was
 pub from-some : {A : Type 0} {P : Type 0} (o : Option A) → is_some o ≡ true → IfSome o (λ x. P) → P
 from-some None is h = cc
@@ -146,6 +164,13 @@ pub found-first : (d : Database) (v u w : VolumeState) (p : ℕ) (found : Option
     → IfSome found (λ f. IsLeastOf d u p f) → AreStanding d w p fs → AreFirstFaults d v fs
 found-first d v u w p found fs e f before is least all =
     faults-found d v p before found fs is (if-some-map found (λ x l. least-same u v d p x (turned e) l) least) (standing-same w v (turned f) d p fs all)
+
+-- and the first is of the phase
+pub found-in : (P : ℕ → Type 0) (d : Database) (v u w : VolumeState) (p : ℕ) (found : Option Fault) (fs : List Fault) → P p → IsOne v u → IsOne v w → is_some found ≡ true → IfSome found (λ f. IsLeastOf d u p f)
+    → AreStanding d w p fs → BeginsWith (λ f. P (phase_of f.line)) fs
+found-in P d v u w p found fs h e f is least all =
+    let here = standing-same w v (turned f) d p fs all in
+    first-in P d v p fs h here.stand (some-listed d v p found fs is (if-some-map found (λ x l. least-same u v d p x (turned e) l) least) here)
 
 -- the first faults are the faults of a volume, which holds no forest
 pub faults-of : (d : Database) (v : VolumeState) (fs : List Fault) → IsTrue (well_formed d.block_size d.frspc d.types) → AreFirstFaults d v fs → AreFaultsOf d v fs

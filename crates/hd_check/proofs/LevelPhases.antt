@@ -19,31 +19,31 @@ use Rattle.hd_image.specs.declared.line.Line.TheVariants.{WrongTop, WrongForm, N
 use Rattle.hd_check_blocks.specs.Phases.{IsLeastOf}
 use Rattle.hd_check_index.proofs.FormFaults.{place-fits}
 use Rattle.hd_check_index.proofs.LateLines.{least-by, least-late, set-8, set-9, set-10, set-11}
-use Rattle.hd_check.specs.Joining.{NoneBefore}
-use Rattle.hd_check.proofs.EarlierFaults.{next, none-12}
+use Rattle.hd_check.specs.Lists.{NoneOfIndexBefore}
+use Rattle.hd_check.proofs.EarlierFaults.{none-of-index, next-of-index, none-12}
 
 -- ---- where nothing is found
 
 module _ (d : Database) (v : VolumeState) (later : (header_of v.image).version ≢ 1) where
   -- the form of each block is right
-  pub level-9 : NoneBefore d v 8 → AreFormsRight (root_key_length d.types) v → NoneBefore d v 9
-  level-9 none forms =
+  pub level-9 : AreFormsRight (root_key_length d.types) v → NoneOfIndexBefore d v 9
+  level-9 forms =
       let judged = (forms-judged (root_key_length d.types) v).0 forms in
-      next d v 8 none (λ k a o is s. elim (set-8 d v k a o later is s) [ inl top ↦ judged.0 a o top | inr form ↦ judged.1 a o form ])
+      next-of-index d v 8 (none-of-index d v) (λ k a o is s. elim (set-8 d v k a o later is s) [ inl top ↦ judged.0 a o top | inr form ↦ judged.1 a o form ])
 
   -- no block is named twice
-  pub level-10 : NoneBefore d v 9 → AreNamedOnce (root_key_length d.types) v → NoneBefore d v 10
-  level-10 none once = next d v 9 none (λ k a o is s. (names-judged (root_key_length d.types) v).0 once a o (set-9 d v k a o later is s))
+  pub level-10 : NoneOfIndexBefore d v 9 → AreNamedOnce (root_key_length d.types) v → NoneOfIndexBefore d v 10
+  level-10 none once = next-of-index d v 9 none (λ k a o is s. (names-judged (root_key_length d.types) v).0 once a o (set-9 d v k a o later is s))
 
   -- each is reached
-  pub level-11 : NoneBefore d v 10 → AreAllReached (root_key_length d.types) v → NoneBefore d v 11
-  level-11 none reached = next d v 10 none (λ k a o is s. (reach-judged (root_key_length d.types) v).0 reached a o (set-10 d v k a o later is s))
+  pub level-11 : NoneOfIndexBefore d v 10 → AreAllReached (root_key_length d.types) v → NoneOfIndexBefore d v 11
+  level-11 none reached = next-of-index d v 10 none (λ k a o is s. (reach-judged (root_key_length d.types) v).0 reached a o (set-10 d v k a o later is s))
 
   -- and the levels are in order
-  pub level-12 : NoneBefore d v 11 → AreFormsRight (root_key_length d.types) v → LevelsAreInOrder (root_key_length d.types) v → NoneBefore d v 12
+  pub level-12 : NoneOfIndexBefore d v 11 → AreFormsRight (root_key_length d.types) v → LevelsAreInOrder (root_key_length d.types) v → NoneOfIndexBefore d v 12
   level-12 none forms order =
       let judged = levels-judged (root_key_length d.types) v forms in
-      next d v 11 none (λ k a o is s. elim (set-11 d v k a o later is s) [ inl t ↦ judged.0.0 order.next a o t.0 | inr t ↦ judged.1.0 order.keys a o t.0 ])
+      next-of-index d v 11 none (λ k a o is s. elim (set-11 d v k a o later is s) [ inl t ↦ judged.0.0 order.next a o t.0 | inr t ↦ judged.1.0 order.keys a o t.0 ])
 
   -- ---- the least of a phase
 
@@ -86,11 +86,11 @@ module _ (d : Database) (v : VolumeState) (later : (header_of v.image).version �
       ])
 
 -- no fault of the blocks of an index and of their order stands in a volume whose index is formed and in order
-pub index-12 : (d : Database) (v : VolumeState) → NoneBefore d v 8 → IsVolumeOf d v → IndexIsFormed (root_key_length d.types) v → IndexIsInOrder (root_key_length d.types) v → NoneBefore d v 12
-index-12 d v none of (inl f) order = none-12 d v none of f.0 (inl f) order
-index-12 d v none of (inr f) (inl o) = absurd (f.0 o.0)
-index-12 d v none of (inr f) (inr o) =
-    let ten = level-10 d v f.0 (level-9 d v f.0 none f.1.forms) f.1.once in
+pub index-12 : (d : Database) (v : VolumeState) → IsVolumeOf d v → IndexIsFormed (root_key_length d.types) v → IndexIsInOrder (root_key_length d.types) v → NoneOfIndexBefore d v 12
+index-12 d v of (inl f) order = none-12 d v of f.0 (inl f) order
+index-12 d v of (inr f) (inl o) = absurd (f.0 o.0)
+index-12 d v of (inr f) (inr o) =
+    let ten = level-10 d v f.0 (level-9 d v f.0 f.1.forms) f.1.once in
     level-12 d v f.0 (level-11 d v f.0 ten f.1.reached) f.1.forms o.1
 
 -- ---- where a fault stands in an image of four-byte addresses

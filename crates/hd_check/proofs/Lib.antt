@@ -8,3 +8,4 @@ pub mod NotedSequence
 pub mod LevelsFound
 pub mod FirstFaults
 pub mod IndexLists
+pub mod Behind

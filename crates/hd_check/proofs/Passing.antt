@@ -1,7 +1,7 @@
 -- What is counted of a volume that passes, and what follows from what the phases find.
-use Rattle.std.proofs.Common.{◌≡◌, ◌⊎◌, inl, inr, ℕ, zero, suc, ◌+◌, ◌*◌, ◌<◌, ◌≤◌, List, [], ◌∷◌, length, map, cond, IsTrue, true, false, None, refl, sym, ap, subst, ◌∙◌, arith}
+use Rattle.std.proofs.Common.{◌≡◌, inl, inr, ℕ, suc, ◌+◌, ◌*◌, ◌<◌, ◌≤◌, List, [], ◌∷◌, length, map, cond, IsTrue, None, refl, sym, ap, subst, ◌∙◌, arith}
 use Rattle.std.specs.Prelude.{◌==◌}
-use Rattle.std.proofs.lemmas.Bool.{cases_eq, eq-eqb, ne_eqb, eqb-true, cond-true, cond-false}
+use Rattle.std.proofs.lemmas.Bool.{cases_eq, eq-eqb, ne_eqb, cond-true, cond-false}
 use Rattle.std.proofs.lemmas.Nat.{mul-le}
 use Rattle.std.proofs.lemmas.List.{length-map}
 use Rattle.hd_dbd.specs.Types.{SegmentType}
@@ -16,8 +16,8 @@ use Rattle.hd_volume.specs.Volumes.{VolumeState}
 use Rattle.hd_volume.specs.Entries.{Entry}
 use Rattle.hd_volume.specs.Indexes.{IsAmong}
 use Rattle.hd_links.specs.Links.{Links, IsSegment, IsLinkGraph, segment_at}
-use Rattle.hd_links.specs.Placed.{Placed, forest_of, count, nowhere, Holds}
-use Rattle.hd_links.specs.Steps.{rows_of, addresses, address_at, RowsHaveAddresses}
+use Rattle.hd_links.specs.Placed.{Placed, forest_of, count, nowhere}
+use Rattle.hd_links.specs.Steps.{rows_of, addresses, RowsHaveAddresses}
 use Rattle.hd_links.specs.LastRows.{roots_of}
 use Rattle.hd_links.proofs.Types.{Ordered, ordered}
 use Rattle.hd_links.proofs.Forms.{Formed, formed}
@@ -36,7 +36,7 @@ use Rattle.hd_image.proofs.NoFault.{no-fault}
 use Rattle.hd_check_blocks.specs.declared.fault.Fault.{Fault}
 use Rattle.hd_check_blocks.specs.declared.places.Place.{Place}
 use Rattle.hd_check.specs.declared.checks.Passed.{Passed}
-use Rattle.hd_check_blocks.specs.Places.{IsPlaceOf, AreFrom, PlacesAscend, ArePlaces}
+use Rattle.hd_check_blocks.specs.Places.{IsPlaceOf, AreFrom, PlacesAscend}
 use Rattle.hd_check.specs.Checks.{IsPassed, IsFaulty}
 use Rattle.hd_check.specs.Joining.{IsFirstFault, IsFoundRight, roots_among}
 use Rattle.hd_check.proofs.Tallies.{AreDifferent, no-more, among-at, at-among, different-at}

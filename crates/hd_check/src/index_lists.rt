@@ -1,5 +1,5 @@
-//! The faults of the first phase of the index that finds any.
-ghost use Rattle.std.specs.Prelude.{◌≡◌, ◌≢◌, [], true, IsTrue, IfNone, IfSome};
+//! The faults of the first phase of the index that finds any. It is judged by itself: the pointers may have faults.
+ghost use Rattle.std.specs.Prelude.{◌≡◌, ◌≢◌, [], true, IsTrue, IfOk, IfNone, IfSome};
 ghost use Rattle.hd_dbd.specs.Refusals.{OnlyDeviceOrMemory};
 ghost use Rattle.hd_volume.specs.Headers.{header_of};
 ghost use Rattle.hd_volume.specs.Calls.{IsRead};
@@ -12,8 +12,8 @@ ghost use Rattle.hd_check_blocks.specs.Finding.{WhereNone, WhereSome};
 ghost use Rattle.hd_check_index.specs.IndexPhases.{IsSequence};
 ghost use Rattle.hd_check_index.specs.Tables.{AreIndexBlocks};
 ghost use Rattle.hd_check_index.specs.Rows.{AreRows};
-ghost use Rattle.hd_check.specs.Joining.{NoneBefore, HasRightBlocks, NamesAreRight};
-ghost use Rattle.hd_check.specs.Lists.{AreFirstFaults};
+ghost use Rattle.hd_check.specs.Joining.{HasRightBlocks, NamesAreRight};
+ghost use Rattle.hd_check.specs.Lists.{NoneOfIndexBefore, AreIndexFaults};
 
 use crate::levels::note_sequence;
 use hd_check_blocks::{Directory, Fault, Place};
@@ -51,11 +51,11 @@ fn chain_order_faults<S: BlockStore>(
     requires version { IsTrue volume.old.is_sound → (header_of volume.old.image).version ≡ 1 }
     requires formed { IsTrue volume.old.is_sound → ChainIsFormed (root_key_length dbd.now.types) volume.old }
     requires chain { IsTrue volume.old.is_sound → chain.old.items ≡ entry_blocks volume.old }
-    requires before { IsTrue volume.old.is_sound → NoneBefore dbd.now volume.old 11 }
+    requires before { IsTrue volume.old.is_sound → NoneOfIndexBefore dbd.now volume.old 11 }
     ensures read { IsRead volume.old result volume.new }
     ensures none { WhereNone volume.old result (keys_ascend (entries (root_key_length dbd.now.types) volume.old) ≡ true) }
     ensures sequence { WhereNone volume.old result (IsSequence (root_key_length dbd.now.types) volume.old chain.new.items) }
-    ensures some { WhereSome volume.old result (λ l. AreFirstFaults dbd.now volume.old l.items) }
+    ensures some { WhereSome volume.old result (λ l. AreIndexFaults dbd.now volume.old l.items × (l.items ≢ [])) }
     ensures refusal { OnlyDeviceOrMemory result }
 {
     let found = entry_order_fault(chain, volume, dbd)?;
@@ -78,11 +78,10 @@ fn chain_faults<S: BlockStore>(
     requires empty { chain.old.items ≡ [] }
     requires of { IsTrue volume.old.is_sound → IsVolumeOf dbd.now volume.old }
     requires version { IsTrue volume.old.is_sound → (header_of volume.old.image).version ≡ 1 }
-    requires before { IsTrue volume.old.is_sound → NoneBefore dbd.now volume.old 8 }
     ensures read { IsRead volume.old result volume.new }
     ensures none { WhereNone volume.old result (IndexIsFormed (root_key_length dbd.now.types) volume.old × IndexIsInOrder (root_key_length dbd.now.types) volume.old) }
     ensures sequence { WhereNone volume.old result (IsSequence (root_key_length dbd.now.types) volume.old chain.new.items) }
-    ensures some { WhereSome volume.old result (λ l. AreFirstFaults dbd.now volume.old l.items) }
+    ensures some { WhereSome volume.old result (λ l. AreIndexFaults dbd.now volume.old l.items × (l.items ≢ [])) }
     ensures refusal { OnlyDeviceOrMemory result }
 {
     let mut blocks = Vec::new(alloc);
@@ -116,11 +115,10 @@ fn level_forms_faults<S: BlockStore>(
     requires empty { blocks.old.items ≡ [] }
     requires of { IsTrue volume.old.is_sound → IsVolumeOf dbd.now volume.old }
     requires later { IsTrue volume.old.is_sound → (header_of volume.old.image).version ≢ 1 }
-    requires before { IsTrue volume.old.is_sound → NoneBefore dbd.now volume.old 8 }
     ensures read { IsRead volume.old result volume.new }
     ensures none { WhereNone volume.old result (AreFormsRight (root_key_length dbd.now.types) volume.old) }
     ensures blocks { WhereNone volume.old result (AreIndexBlocks volume.old blocks.new.items) }
-    ensures some { WhereSome volume.old result (λ l. AreFirstFaults dbd.now volume.old l.items) }
+    ensures some { WhereSome volume.old result (λ l. AreIndexFaults dbd.now volume.old l.items × (l.items ≢ [])) }
     ensures refusal { OnlyDeviceOrMemory result }
 {
     note_blocks(blocks, volume)?;
@@ -139,10 +137,9 @@ fn level_names_faults<S: BlockStore>(
     requires later { IsTrue volume.old.is_sound → (header_of volume.old.image).version ≢ 1 }
     requires blocks { IsTrue volume.old.is_sound → AreIndexBlocks volume.old blocks.now }
     requires forms { IsTrue volume.old.is_sound → AreFormsRight (root_key_length dbd.now.types) volume.old }
-    requires before { IsTrue volume.old.is_sound → NoneBefore dbd.now volume.old 9 }
     ensures read { IsRead volume.old result volume.new }
     ensures none { WhereNone volume.old result (AreNamedOnce (root_key_length dbd.now.types) volume.old) }
-    ensures some { WhereSome volume.old result (λ l. AreFirstFaults dbd.now volume.old l.items) }
+    ensures some { WhereSome volume.old result (λ l. AreIndexFaults dbd.now volume.old l.items × (l.items ≢ [])) }
     ensures refusal { OnlyDeviceOrMemory result }
 {
     let faults = set_name_faults(alloc, blocks, volume, dbd)?;
@@ -162,11 +159,11 @@ fn level_reach_faults<S: BlockStore>(
     requires later { IsTrue volume.old.is_sound → (header_of volume.old.image).version ≢ 1 }
     requires blocks { IsTrue volume.old.is_sound → AreIndexBlocks volume.old blocks.now }
     requires forms { IsTrue volume.old.is_sound → AreFormsRight (root_key_length dbd.now.types) volume.old }
-    requires before { IsTrue volume.old.is_sound → NoneBefore dbd.now volume.old 10 }
+    requires before { IsTrue volume.old.is_sound → NoneOfIndexBefore dbd.now volume.old 10 }
     ensures read { IsRead volume.old result volume.new }
     ensures none { WhereNone volume.old result (AreAllReached (root_key_length dbd.now.types) volume.old) }
     ensures rows { WhereNone volume.old result (AreRows (root_key_length dbd.now.types) volume.old rows.new.items) }
-    ensures some { WhereSome volume.old result (λ l. AreFirstFaults dbd.now volume.old l.items) }
+    ensures some { WhereSome volume.old result (λ l. AreIndexFaults dbd.now volume.old l.items × (l.items ≢ [])) }
     ensures refusal { OnlyDeviceOrMemory result }
 {
     let top = volume.top();
@@ -190,10 +187,10 @@ fn level_order_faults<S: BlockStore>(
     requires blocks { IsTrue volume.old.is_sound → AreIndexBlocks volume.old blocks.now }
     requires forms { IsTrue volume.old.is_sound → AreFormsRight (root_key_length dbd.now.types) volume.old }
     requires rows { IsTrue volume.old.is_sound → AreRows (root_key_length dbd.now.types) volume.old rows.now }
-    requires before { IsTrue volume.old.is_sound → NoneBefore dbd.now volume.old 11 }
+    requires before { IsTrue volume.old.is_sound → NoneOfIndexBefore dbd.now volume.old 11 }
     ensures read { IsRead volume.old result volume.new }
     ensures none { WhereNone volume.old result (LevelsAreInOrder (root_key_length dbd.now.types) volume.old) }
-    ensures some { WhereSome volume.old result (λ l. AreFirstFaults dbd.now volume.old l.items) }
+    ensures some { WhereSome volume.old result (λ l. AreIndexFaults dbd.now volume.old l.items × (l.items ≢ [])) }
     ensures refusal { OnlyDeviceOrMemory result }
 {
     let faults = set_order_faults(alloc, blocks, rows, volume, dbd)?;
@@ -211,10 +208,9 @@ fn level_rows_faults<S: BlockStore>(
     requires later { IsTrue volume.old.is_sound → (header_of volume.old.image).version ≢ 1 }
     requires blocks { IsTrue volume.old.is_sound → AreIndexBlocks volume.old blocks.now }
     requires forms { IsTrue volume.old.is_sound → AreFormsRight (root_key_length dbd.now.types) volume.old }
-    requires before { IsTrue volume.old.is_sound → NoneBefore dbd.now volume.old 9 }
     ensures read { IsRead volume.old result volume.new }
     ensures none { WhereNone volume.old result (SetIsFormed (root_key_length dbd.now.types) volume.old × LevelsAreInOrder (root_key_length dbd.now.types) volume.old) }
-    ensures some { WhereSome volume.old result (λ l. AreFirstFaults dbd.now volume.old l.items) }
+    ensures some { WhereSome volume.old result (λ l. AreIndexFaults dbd.now volume.old l.items × (l.items ≢ [])) }
     ensures refusal { OnlyDeviceOrMemory result }
 {
     let found = level_names_faults(alloc, blocks, volume, dbd)?;
@@ -240,11 +236,10 @@ fn levels_faults<S: BlockStore>(
     requires empty { sequence.old.items ≡ [] }
     requires of { IsTrue volume.old.is_sound → IsVolumeOf dbd.now volume.old }
     requires later { IsTrue volume.old.is_sound → (header_of volume.old.image).version ≢ 1 }
-    requires before { IsTrue volume.old.is_sound → NoneBefore dbd.now volume.old 8 }
     ensures read { IsRead volume.old result volume.new }
     ensures none { WhereNone volume.old result (IndexIsFormed (root_key_length dbd.now.types) volume.old × IndexIsInOrder (root_key_length dbd.now.types) volume.old) }
     ensures sequence { WhereNone volume.old result (IsSequence (root_key_length dbd.now.types) volume.old sequence.new.items) }
-    ensures some { WhereSome volume.old result (λ l. AreFirstFaults dbd.now volume.old l.items) }
+    ensures some { WhereSome volume.old result (λ l. AreIndexFaults dbd.now volume.old l.items × (l.items ≢ [])) }
     ensures refusal { OnlyDeviceOrMemory result }
 {
     let mut blocks = Vec::new(alloc);
@@ -270,11 +265,10 @@ fn index_blocks_faults<S: BlockStore>(
 ) -> Result<Option<Vec<Fault>>, Refused>
     requires empty { sequence.old.items ≡ [] }
     requires of { IsTrue volume.old.is_sound → IsVolumeOf dbd.now volume.old }
-    requires before { IsTrue volume.old.is_sound → NoneBefore dbd.now volume.old 8 }
     ensures read { IsRead volume.old result volume.new }
     ensures none { WhereNone volume.old result (IndexIsFormed (root_key_length dbd.now.types) volume.old × IndexIsInOrder (root_key_length dbd.now.types) volume.old) }
     ensures sequence { WhereNone volume.old result (IsSequence (root_key_length dbd.now.types) volume.old sequence.new.items) }
-    ensures some { WhereSome volume.old result (λ l. AreFirstFaults dbd.now volume.old l.items) }
+    ensures some { WhereSome volume.old result (λ l. AreIndexFaults dbd.now volume.old l.items × (l.items ≢ [])) }
     ensures refusal { OnlyDeviceOrMemory result }
 {
     if volume.version() == 1 {
@@ -291,44 +285,41 @@ fn entries_faults<S: BlockStore>(
     sequence: &[u32],
     volume: &mut Volume<S>,
     dbd: &Dbd,
-) -> Result<Option<Vec<Fault>>, Refused>
+) -> Result<Vec<Fault>, Refused>
     requires right { IsTrue volume.old.is_sound → HasRightBlocks dbd.now volume.old places.now }
     requires sequence { IsTrue volume.old.is_sound → IsSequence (root_key_length dbd.now.types) volume.old sequence.now }
-    requires before { IsTrue volume.old.is_sound → NoneBefore dbd.now volume.old 12 }
+    requires before { IsTrue volume.old.is_sound → NoneOfIndexBefore dbd.now volume.old 12 }
     ensures read { IsRead volume.old result volume.new }
-    ensures none { WhereNone volume.old result (NamesAreRight dbd.now volume.old) }
-    ensures some { WhereSome volume.old result (λ l. AreFirstFaults dbd.now volume.old l.items) }
+    ensures faults { IfOk result (λ faults. IsTrue volume.old.is_sound → AreIndexFaults dbd.now volume.old faults.items) }
+    ensures none { IfOk result (λ faults. IsTrue volume.old.is_sound → faults.items ≡ [] → NamesAreRight dbd.now volume.old) }
     ensures refusal { OnlyDeviceOrMemory result }
 {
     let mut named = Vec::new(alloc);
     let found = wrong_entry_fault(alloc, &mut named, sequence, places, directory, volume, dbd)?;
     if found.is_some() {
-        let faults = wrong_entry_faults(alloc, sequence, places, directory, volume, dbd)?;
-        return Ok(Some(faults));
+        return wrong_entry_faults(alloc, sequence, places, directory, volume, dbd);
     }
     let faults = unnamed_root_faults(alloc, &mut named, places)?;
-    Ok(listed(faults))
+    Ok(faults)
 }
 
-/// The faults of the first phase of the index that finds any.
+/// The faults of the first phase of the index that finds any, whatever is wrong with the pointers.
 pub fn index_faults<S: BlockStore>(
     alloc: Global,
     places: &[Place],
     directory: &Directory,
     volume: &mut Volume<S>,
     dbd: &Dbd,
-) -> Result<Option<Vec<Fault>>, Refused>
+) -> Result<Vec<Fault>, Refused>
     requires right { IsTrue volume.old.is_sound → HasRightBlocks dbd.now volume.old places.now }
-    requires before { IsTrue volume.old.is_sound → NoneBefore dbd.now volume.old 8 }
     ensures read { IsRead volume.old result volume.new }
-    ensures none { WhereNone volume.old result (IndexIsFormed (root_key_length dbd.now.types) volume.old × EntriesAreRight dbd.now volume.old) }
-    ensures some { WhereSome volume.old result (λ l. AreFirstFaults dbd.now volume.old l.items) }
+    ensures faults { IfOk result (λ faults. IsTrue volume.old.is_sound → AreIndexFaults dbd.now volume.old faults.items) }
+    ensures none { IfOk result (λ faults. IsTrue volume.old.is_sound → faults.items ≡ [] → IndexIsFormed (root_key_length dbd.now.types) volume.old × EntriesAreRight dbd.now volume.old) }
     ensures refusal { OnlyDeviceOrMemory result }
 {
     let mut sequence = Vec::new(alloc);
-    let found = index_blocks_faults(alloc, &mut sequence, volume, dbd)?;
-    if found.is_some() {
-        return Ok(found);
+    match index_blocks_faults(alloc, &mut sequence, volume, dbd)? {
+        None => entries_faults(alloc, places, directory, &sequence, volume, dbd),
+        Some(faults) => Ok(faults),
     }
-    entries_faults(alloc, places, directory, &sequence, volume, dbd)
 }

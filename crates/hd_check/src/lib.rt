@@ -12,4 +12,4 @@ mod phases;
 pub use checks::{CheckFault, Passed, check};
 pub use hd_check_blocks::Fault;
 pub use hd_image::Line;
-pub use lists::all_faults;
+pub use lists::{AllFaults, all_faults};

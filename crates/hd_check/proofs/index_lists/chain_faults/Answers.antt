@@ -1,23 +1,21 @@
-use Rattle.std.proofs.Common.{◌≡◌, inl, IsTrue, Ok, Some, refl, ℕ, List, ap, sym, subst, ◌∙◌}
-use Rattle.hd_bytes.specs.Blocks.{HasBlock}
+use Rattle.std.proofs.Common.{◌≡◌, inl, Ok, Some, refl, ℕ, List, ap, sym, subst, ◌∙◌, arith}
 use Rattle.hd_dbd.specs.Hierarchy.{Database}
 use Rattle.hd_volume.specs.Headers.{header_of}
 use Rattle.hd_volume.specs.Volumes.{VolumeState}
 use Rattle.hd_volume.specs.Entries.{entry_blocks}
 use Rattle.hd_volume.specs.Indexes.{root_key_length}
 use Rattle.hd_volume.proofs.CallSteps.{if-ok, read-ok, reads-join}
-use Rattle.hd_volume.proofs.PutLemmas.{if-none-map, if-some-map}
+use Rattle.hd_volume.proofs.PutLemmas.{if-none-map}
 use Rattle.hd_image.specs.Records.{IsVolumeOf}
 use Rattle.hd_image.proofs.OneImage.{volume-same}
 use Rattle.hd_image.specs.Right.{ChainIsFormed}
 use Rattle.hd_check_index.specs.declared.noted_blocks.ChainedBlock.{ChainedBlock}
 use Rattle.hd_check_index.specs.IndexPhases.{AreIndexBlocks, IsIndexRight, AreNamedOnce}
-use Rattle.hd_check.specs.Joining.{NoneBefore}
 use Rattle.hd_check_pointers.proofs.RecordSteps.{from-none}
 use Rattle.hd_check.proofs.OneStore.{IsOne, turned, chain-formed-same, bearers-same, in-order-same, sequence-same}
-use Rattle.hd_check.proofs.EarlierFaults.{none-9, none-10, none-11}
-use Rattle.hd_check.proofs.Joined.{still-sound, was-sound, read-one, carried, none-same, header-says}
-use Rattle.hd_check.proofs.FirstFaults.{found-first, faults-found, first-faults-same}
+use Rattle.hd_check.proofs.EarlierFaults.{none-of-index, none-9, none-10, none-11}
+use Rattle.hd_check.proofs.Joined.{still-sound, was-sound, read-one, header-says}
+use Rattle.hd_check.proofs.IndexLists.{found-index, none-of-index-same, index-found-same}
 use Rattle.hd_check.proofs.index_lists.chain_faults.Goals as goal
 
 pub block_forms_faults-requires-clause-of : goal.block_forms_faults-requires-clause-of
@@ -42,8 +40,8 @@ returns-then-is_some-clause-some g c = λ sound.
     let v : VolumeState = c.args.volume.now in
     let w : VolumeState = c.block_forms_fault.new.volume in
     let e : IsOne v w = read-one c.in_ok-found.ensures.read sound in
-    found-first c.args.dbd.now v v w 8 c.in_ok-found.found c.in_ok-faults.faults.items (record { image = refl; size = refl; sizes = refl }) e (c.requires.before sound) (sym c.is_some.ensures ∙ c.if-is_some.true)
-    (c.in_ok-found.ensures.some sound) (c.in_ok-faults.ensures.faults (still-sound c.in_ok-found.ensures.read sound))
+    found-index c.args.dbd.now v w 8 c.in_ok-found.found c.in_ok-faults.faults.items e (omega arith) (none-of-index c.args.dbd.now v) (sym c.is_some.ensures ∙ c.if-is_some.true) (c.in_ok-found.ensures.some sound)
+    (c.in_ok-faults.ensures.faults (still-sound c.in_ok-found.ensures.read sound))
 
 pub returns-then-is_some-2-clause-read : goal.returns-then-is_some-2-clause-read
 returns-then-is_some-2-clause-read g c = read-ok (Some c.in_ok-faults-2.faults) c.in_ok-found.ensures.read
@@ -63,7 +61,7 @@ returns-then-is_some-2-clause-some g c = λ sound.
     let table : AreIndexBlocks v c.deref.result.now = subst (λ (l : List ChainedBlock). AreIndexBlocks v l) (sym c.deref.ensures.value) all in
     let size = c.block_size-size.ensures.value ∙ e.size in
     let table-then : AreIndexBlocks v c.deref-then-is_some-2.result.now = subst (λ (l : List ChainedBlock). AreIndexBlocks v l) (sym c.deref-then-is_some-2.ensures.value) all in
-    faults-found d v 9 (none-9 d v (c.requires.before sound) right) c.in_ok-found-2.found c.in_ok-faults-2.faults.items (sym c.is_some-2.ensures ∙ c.if-is_some-2.true)
+    found-index d v v 9 c.in_ok-found-2.found c.in_ok-faults-2.faults.items (record { image = refl; size = refl; sizes = refl }) (omega arith) (none-9 d v right) (sym c.is_some-2.ensures ∙ c.if-is_some-2.true)
     (c.in_ok-found-2.ensures.some d v table top right V size) (c.in_ok-faults-2.ensures.faults d v table-then top right V size)
 
 pub returns-then-is_some-3-clause-read : goal.returns-then-is_some-3-clause-read
@@ -86,7 +84,8 @@ returns-then-is_some-3-clause-some g c = λ sound.
     let once : AreNamedOnce v = from-none c.in_ok-found-2.found (sym c.is_some-2.ensures ∙ c.if-is_some-2.false) (c.in_ok-found-2.ensures.none d v table top right V) in
     let table-2 : AreIndexBlocks v c.deref-2.result.now = subst (λ (l : List ChainedBlock). AreIndexBlocks v l) (sym c.deref-2.ensures.value) all in
     let table-then : AreIndexBlocks v c.deref-then-is_some-3.result.now = subst (λ (l : List ChainedBlock). AreIndexBlocks v l) (sym c.deref-then-is_some-3.ensures.value) all in
-    faults-found d v 10 (none-10 d v (none-9 d v (c.requires.before sound) right) right.version once) c.in_ok-found-3.found c.in_ok-faults-3.faults.items (sym c.is_some-3.ensures ∙ c.if-is_some-3.true)
+    found-index d v v 10 c.in_ok-found-3.found c.in_ok-faults-3.faults.items (record { image = refl; size = refl; sizes = refl }) (omega arith) (none-10 d v (none-9 d v right) right.version once)
+    (sym c.is_some-3.ensures ∙ c.if-is_some-3.true)
     (c.in_ok-found-3.ensures.some d v table-2 top right once V size) (c.in_ok-faults-3.ensures.faults d v table-then top right once V size)
 
 pub chain_order_faults-requires-clause-of : goal.chain_order_faults-requires-clause-of
@@ -158,7 +157,7 @@ chain_order_faults-requires-clause-before g c = λ now.
     let once : AreNamedOnce v = from-none c.in_ok-found-2.found (sym c.is_some-2.ensures ∙ c.if-is_some-2.false) (c.in_ok-found-2.ensures.none d v table top right V) in
     let table-2 : AreIndexBlocks v c.deref-2.result.now = subst (λ (l : List ChainedBlock). AreIndexBlocks v l) (sym c.deref-2.ensures.value) all in
     let formed : ChainIsFormed k v = from-none c.in_ok-found-3.found (sym c.is_some-3.ensures ∙ c.if-is_some-3.false) (c.in_ok-found-3.ensures.none d v table-2 top right once V) in
-    none-same d 11 v w e (none-11 d v (none-10 d v (none-9 d v (c.requires.before sound) right) right.version once) right.version formed)
+    none-of-index-same v w e d 11 (none-11 d v (none-10 d v (none-9 d v right) right.version once) right.version formed)
 
 pub returns-clause-none : goal.returns-clause-none
 returns-clause-none g c = if-ok c.chain_order_faults.result c.chain_order_faults.ensures.none
@@ -195,4 +194,4 @@ returns-clause-some g c = if-ok c.chain_order_faults.result c.chain_order_faults
     let v : VolumeState = c.args.volume.now in
     let w : VolumeState = c.block_forms_fault.new.volume in
     let e : IsOne v w = read-one c.in_ok-found.ensures.read sound in
-    if-some-map o (λ l h. first-faults-same w v (turned e) c.args.dbd.now l.items h) (some (still-sound c.in_ok-found.ensures.read sound)))
+    index-found-same w v (turned e) c.args.dbd.now o (some (still-sound c.in_ok-found.ensures.read sound)))

@@ -1,5 +1,4 @@
-use Rattle.std.proofs.Common.{◌≡◌, Ok, Some, None, ℕ, List, refl, sym, ap, subst, ◌∙◌}
-use Rattle.hd_dbd.specs.Hierarchy.{Database}
+use Rattle.std.proofs.Common.{Ok, Some, ℕ, List, sym, ap, ◌∙◌, arith}
 use Rattle.hd_volume.specs.Headers.{header_of}
 use Rattle.hd_volume.specs.Volumes.{VolumeState}
 use Rattle.hd_volume.specs.Indexes.{root_key_length}
@@ -7,7 +6,7 @@ use Rattle.hd_volume.proofs.CallSteps.{read-ok, reads-join}
 use Rattle.hd_image.proofs.OneImage.{volume-same}
 use Rattle.hd_check.proofs.OneStore.{IsOne, chain-formed-same, bearers-same}
 use Rattle.hd_check.proofs.Joined.{still-sound, was-sound, read-one}
-use Rattle.hd_check.proofs.FirstFaults.{found-first}
+use Rattle.hd_check.proofs.IndexLists.{found-index}
 use Rattle.hd_check.proofs.index_lists.chain_order_faults.Goals as goal
 
 pub entry_order_faults-requires-clause-of : goal.entry_order_faults-requires-clause-of
@@ -47,5 +46,5 @@ returns-then-is_some-clause-some g c = λ sound.
     let v : VolumeState = c.args.volume.now in
     let w : VolumeState = c.entry_order_fault.new.volume in
     let e : IsOne v w = read-one c.in_ok-found.ensures.read sound in
-    found-first c.args.dbd.now v v w 11 c.in_ok-found.found c.in_ok-faults.faults.items (record { image = refl; size = refl; sizes = refl }) e (c.requires.before sound) (sym c.is_some.ensures ∙ c.if-is_some.true)
+    found-index c.args.dbd.now v w 11 c.in_ok-found.found c.in_ok-faults.faults.items e (omega arith) (c.requires.before sound) (sym c.is_some.ensures ∙ c.if-is_some.true)
     (c.in_ok-found.ensures.some sound) (c.in_ok-faults.ensures.faults (still-sound c.in_ok-found.ensures.read sound))

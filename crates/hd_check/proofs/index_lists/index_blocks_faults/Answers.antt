@@ -1,5 +1,4 @@
 use Rattle.std.proofs.Common.{sym, ◌∙◌}
-use Rattle.hd_check.proofs.FirstFaults.{first-faults-same}
 use Rattle.hd_check.proofs.index_lists.index_blocks_faults.Goals as goal
 
 pub chain_faults-requires-clause-version : goal.chain_faults-requires-clause-version

@@ -1,4 +1,4 @@
-use Rattle.std.proofs.Common.{◌≡◌, Ok, ℕ, List, ap, sym, subst, ◌∙◌}
+use Rattle.std.proofs.Common.{Ok, ℕ, List, ap, sym, subst, ◌∙◌, arith}
 use Rattle.hd_dbd.specs.Hierarchy.{Database}
 use Rattle.hd_volume.specs.Headers.{header_of}
 use Rattle.hd_volume.specs.Volumes.{VolumeState}
@@ -11,6 +11,7 @@ use Rattle.hd_check_index.specs.declared.table.NotedBlock.{NotedBlock}
 use Rattle.hd_check_index.specs.Tables.{AreIndexBlocks}
 use Rattle.hd_check.proofs.OneStore.{IsOne, turned, level-table-same}
 use Rattle.hd_check.proofs.Joined.{still-sound, was-sound, read-one}
+use Rattle.hd_check.proofs.EarlierFaults.{none-of-index}
 use Rattle.hd_check.proofs.FirstFaults.{standing-same}
 use Rattle.hd_check.proofs.IndexLists.{set-forms, listed-none, listed-some}
 use Rattle.hd_check.proofs.index_lists.level_forms_faults.Goals as goal
@@ -56,4 +57,4 @@ returns-clause-some g c = λ sound.
     let w : VolumeState = c.note_blocks.new.volume in
     let e : IsOne v w = read-one c.in_ok-note_blocks.ensures.read sound in
     let all : AreStanding d v 8 c.in_ok-faults.faults.items = standing-same w v (turned e) d 8 c.in_ok-faults.faults.items (c.in_ok-faults.ensures.faults (still-sound c.in_ok-note_blocks.ensures.read sound)) in
-    listed-some d v 8 c.in_ok-faults.faults.items all c.listed.result (c.requires.before sound) c.listed.ensures.some
+    listed-some d v 8 c.in_ok-faults.faults.items all c.listed.result (omega arith) (none-of-index d v) c.listed.ensures.some

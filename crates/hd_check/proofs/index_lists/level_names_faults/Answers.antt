@@ -1,5 +1,7 @@
+use Rattle.std.proofs.Common.{arith}
 use Rattle.hd_volume.specs.Indexes.{root_key_length}
 use Rattle.hd_index_blocks.specs.Faultless.{AreNamedOnce}
+use Rattle.hd_check.proofs.LevelPhases.{level-9}
 use Rattle.hd_check.proofs.IndexLists.{set-once, listed-none, listed-some}
 use Rattle.hd_check.proofs.index_lists.level_names_faults.Goals as goal
 
@@ -10,4 +12,4 @@ returns-clause-none g c = λ sound.
 
 pub returns-clause-some : goal.returns-clause-some
 returns-clause-some g c = λ sound.
-    listed-some c.args.dbd.now c.args.volume.now 9 c.in_ok-faults.faults.items (c.in_ok-faults.ensures.faults sound) c.listed.result (c.requires.before sound) c.listed.ensures.some
+    listed-some c.args.dbd.now c.args.volume.now 9 c.in_ok-faults.faults.items (c.in_ok-faults.ensures.faults sound) c.listed.result (omega arith) (level-9 c.args.dbd.now c.args.volume.now (c.requires.later sound) (c.requires.forms sound)) c.listed.ensures.some

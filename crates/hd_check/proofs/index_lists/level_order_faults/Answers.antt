@@ -1,3 +1,4 @@
+use Rattle.std.proofs.Common.{arith}
 use Rattle.hd_volume.specs.Indexes.{root_key_length}
 use Rattle.hd_image.specs.Right.{LevelsAreInOrder}
 use Rattle.hd_check.proofs.IndexLists.{set-in-order, listed-none, listed-some}
@@ -10,4 +11,4 @@ returns-clause-none g c = λ sound.
 
 pub returns-clause-some : goal.returns-clause-some
 returns-clause-some g c = λ sound.
-    listed-some c.args.dbd.now c.args.volume.now 11 c.in_ok-faults.faults.items (c.in_ok-faults.ensures.faults sound) c.listed.result (c.requires.before sound) c.listed.ensures.some
+    listed-some c.args.dbd.now c.args.volume.now 11 c.in_ok-faults.faults.items (c.in_ok-faults.ensures.faults sound) c.listed.result (omega arith) (c.requires.before sound) c.listed.ensures.some

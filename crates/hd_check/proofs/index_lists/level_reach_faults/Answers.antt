@@ -1,4 +1,4 @@
-use Rattle.std.proofs.Common.{ℕ, List, sym, subst, ◌∙◌}
+use Rattle.std.proofs.Common.{ℕ, List, sym, subst, arith}
 use Rattle.hd_dbd.specs.Hierarchy.{Database}
 use Rattle.hd_volume.specs.Volumes.{VolumeState}
 use Rattle.hd_volume.specs.Indexes.{root_key_length}
@@ -28,4 +28,4 @@ returns-clause-some g c = λ sound.
     let L : List Standing → Type 0 = λ rows. AreRows k v rows in
     let rows = subst L (sym c.deref.ensures.value) (subst R c.root_key_length.ensures.value (c.in_ok-rows_down.ensures.rows sound)) in
     let all = c.in_ok-faults.ensures.faults d v (c.requires.of sound) (c.requires.later sound) (c.requires.blocks sound) rows c.block_size-size.ensures.value in
-    listed-some d v 10 c.in_ok-faults.faults.items all c.listed.result (c.requires.before sound) c.listed.ensures.some
+    listed-some d v 10 c.in_ok-faults.faults.items all c.listed.result (omega arith) (c.requires.before sound) c.listed.ensures.some

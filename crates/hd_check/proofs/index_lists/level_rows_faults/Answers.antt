@@ -3,16 +3,16 @@ use Rattle.hd_dbd.specs.Hierarchy.{Database}
 use Rattle.hd_volume.specs.Volumes.{VolumeState}
 use Rattle.hd_volume.specs.Indexes.{root_key_length}
 use Rattle.hd_volume.proofs.CallSteps.{reads-join, if-ok}
-use Rattle.hd_volume.proofs.PutLemmas.{if-none-map, if-some-map}
+use Rattle.hd_volume.proofs.PutLemmas.{if-none-map}
 use Rattle.hd_index_blocks.specs.Faultless.{AreNamedOnce, AreAllReached}
 use Rattle.hd_image.proofs.OneImage.{volume-same}
 use Rattle.hd_check_index.specs.declared.rows.Standing.{Standing}
 use Rattle.hd_check_index.specs.Rows.{AreRows}
 use Rattle.hd_check_pointers.proofs.RecordSteps.{from-none}
 use Rattle.hd_check.proofs.OneStore.{IsOne, turned, level-forms-same, level-table-same, reached-same, rows-same, levels-same}
-use Rattle.hd_check.proofs.LevelPhases.{level-10, level-11}
-use Rattle.hd_check.proofs.Joined.{still-sound, was-sound, read-one, none-same}
-use Rattle.hd_check.proofs.FirstFaults.{first-faults-same}
+use Rattle.hd_check.proofs.LevelPhases.{level-9, level-10, level-11}
+use Rattle.hd_check.proofs.Joined.{still-sound, was-sound, read-one}
+use Rattle.hd_check.proofs.IndexLists.{none-of-index-same, index-found-same}
 use Rattle.hd_check.proofs.index_lists.level_rows_faults.Goals as goal
 
 pub level_reach_faults-requires-clause-blocks : goal.level_reach_faults-requires-clause-blocks
@@ -31,12 +31,13 @@ level_reach_faults-requires-clause-before g c = λ now.
     let v : VolumeState = c.args.volume.now in
     let w : VolumeState = c.level_names_faults.new.volume in
     let sound = was-sound c.in_ok-found.ensures.read now in
+    let later = c.requires.later sound in
     let once : AreNamedOnce (root_key_length d.types) v = from-none c.in_ok-found.found (sym c.is_some.ensures ∙ c.if-is_some.false) (c.in_ok-found.ensures.none sound) in
-    none-same d 10 v w (read-one c.in_ok-found.ensures.read sound) (level-10 d v (c.requires.later sound) (c.requires.before sound) once)
+    none-of-index-same v w (read-one c.in_ok-found.ensures.read sound) d 10 (level-10 d v later (level-9 d v later (c.requires.forms sound)) once)
 
 pub returns-then-is_some-2-clause-some : goal.returns-then-is_some-2-clause-some
 returns-then-is_some-2-clause-some g c = λ sound.
-    if-some-map c.in_ok-found-2.found (λ l h. first-faults-same c.level_names_faults.new.volume c.args.volume.now (turned (read-one c.in_ok-found.ensures.read sound)) c.args.dbd.now l.items h) (c.in_ok-found-2.ensures.some (still-sound c.in_ok-found.ensures.read sound))
+    index-found-same c.level_names_faults.new.volume c.args.volume.now (turned (read-one c.in_ok-found.ensures.read sound)) c.args.dbd.now c.in_ok-found-2.found (c.in_ok-found-2.ensures.some (still-sound c.in_ok-found.ensures.read sound))
 
 pub level_order_faults-requires-clause-of : goal.level_order_faults-requires-clause-of
 level_order_faults-requires-clause-of g c = λ now.
@@ -79,7 +80,8 @@ level_order_faults-requires-clause-before g c = λ now.
     let later = c.requires.later sound in
     let once : AreNamedOnce k v = from-none c.in_ok-found.found (sym c.is_some.ensures ∙ c.if-is_some.false) (c.in_ok-found.ensures.none sound) in
     let reached : AreAllReached k w = from-none c.in_ok-found-2.found (sym c.is_some-2.ensures ∙ c.if-is_some-2.false) (c.in_ok-found-2.ensures.none (still-sound c.in_ok-found.ensures.read sound)) in
-    none-same d 11 v x (read-one read sound) (level-11 d v later (level-10 d v later (c.requires.before sound) once) (reached-same w v (turned (read-one c.in_ok-found.ensures.read sound)) k reached))
+    let ten = level-10 d v later (level-9 d v later (c.requires.forms sound)) once in
+    none-of-index-same v x (read-one read sound) d 11 (level-11 d v later ten (reached-same w v (turned (read-one c.in_ok-found.ensures.read sound)) k reached))
 
 pub returns-clause-none : goal.returns-clause-none
 returns-clause-none g c = if-ok c.level_order_faults.result c.level_order_faults.ensures.none
@@ -106,4 +108,4 @@ pub returns-clause-some : goal.returns-clause-some
 returns-clause-some g c = if-ok c.level_order_faults.result c.level_order_faults.ensures.some
     (λ o some sound.
     let read = reads-join (Ok c.in_ok-found-2.found) c.in_ok-found.ensures.read c.in_ok-found-2.ensures.read in
-    if-some-map o (λ l h. first-faults-same c.level_reach_faults.new.volume c.args.volume.now (turned (read-one read sound)) c.args.dbd.now l.items h) (some (still-sound read sound)))
+    index-found-same c.level_reach_faults.new.volume c.args.volume.now (turned (read-one read sound)) c.args.dbd.now o (some (still-sound read sound)))

@@ -1,17 +1,14 @@
 use Rattle.std.proofs.Common.{inr, ℕ, List, sym, subst, ◌∙◌}
-use Rattle.hd_dbd.specs.Hierarchy.{Database}
 use Rattle.hd_volume.specs.Volumes.{VolumeState}
 use Rattle.hd_volume.specs.Indexes.{root_key_length}
-use Rattle.hd_volume.proofs.PutLemmas.{if-some-map}
 use Rattle.hd_index_blocks.specs.Faultless.{AreFormsRight}
 use Rattle.hd_image.specs.Right.{SetIsFormed, LevelsAreInOrder}
 use Rattle.hd_check_index.specs.declared.table.NotedBlock.{NotedBlock}
 use Rattle.hd_check_index.specs.Tables.{AreIndexBlocks}
 use Rattle.hd_check_pointers.proofs.RecordSteps.{from-none}
 use Rattle.hd_check.proofs.OneStore.{IsOne, turned, set-formed-same, level-forms-same, level-table-same, levels-same}
-use Rattle.hd_check.proofs.LevelPhases.{level-9}
-use Rattle.hd_check.proofs.Joined.{still-sound, was-sound, read-one, none-same}
-use Rattle.hd_check.proofs.FirstFaults.{first-faults-same}
+use Rattle.hd_check.proofs.Joined.{still-sound, was-sound, read-one}
+use Rattle.hd_check.proofs.IndexLists.{index-found-same}
 use Rattle.hd_check.proofs.index_lists.levels_faults.Goals as goal
 
 pub level_rows_faults-requires-clause-blocks : goal.level_rows_faults-requires-clause-blocks
@@ -31,17 +28,9 @@ level_rows_faults-requires-clause-forms g c = λ now.
     let forms : AreFormsRight k v = from-none c.in_ok-found.found (sym c.is_some.ensures ∙ c.if-is_some.false) (c.in_ok-found.ensures.none sound) in
     level-forms-same v c.level_forms_faults.new.volume (read-one c.in_ok-found.ensures.read sound) k forms
 
-pub level_rows_faults-requires-clause-before : goal.level_rows_faults-requires-clause-before
-level_rows_faults-requires-clause-before g c = λ now.
-    let d : Database = c.args.dbd.now in
-    let v : VolumeState = c.args.volume.now in
-    let sound = was-sound c.in_ok-found.ensures.read now in
-    let forms : AreFormsRight (root_key_length d.types) v = from-none c.in_ok-found.found (sym c.is_some.ensures ∙ c.if-is_some.false) (c.in_ok-found.ensures.none sound) in
-    none-same d 9 v c.level_forms_faults.new.volume (read-one c.in_ok-found.ensures.read sound) (level-9 d v (c.requires.later sound) (c.requires.before sound) forms)
-
 pub returns-then-is_some-2-clause-some : goal.returns-then-is_some-2-clause-some
 returns-then-is_some-2-clause-some g c = λ sound.
-    if-some-map c.in_ok-found-2.found (λ l h. first-faults-same c.level_forms_faults.new.volume c.args.volume.now (turned (read-one c.in_ok-found.ensures.read sound)) c.args.dbd.now l.items h) (c.in_ok-found-2.ensures.some (still-sound c.in_ok-found.ensures.read sound))
+    index-found-same c.level_forms_faults.new.volume c.args.volume.now (turned (read-one c.in_ok-found.ensures.read sound)) c.args.dbd.now c.in_ok-found-2.found (c.in_ok-found-2.ensures.some (still-sound c.in_ok-found.ensures.read sound))
 
 pub returns-clause-none : goal.returns-clause-none
 returns-clause-none g c = λ sound.

@@ -1,4 +1,4 @@
-use Rattle.std.proofs.Common.{Ok, ℕ, List, sym, subst, ◌∙◌}
+use Rattle.std.proofs.Common.{Ok, ℕ, List, sym, subst, ◌∙◌, arith}
 use Rattle.hd_dbd.specs.Hierarchy.{Database}
 use Rattle.hd_volume.specs.Volumes.{VolumeState}
 use Rattle.hd_volume.specs.Indexes.{root_key_length}
@@ -10,7 +10,8 @@ use Rattle.hd_check_index.specs.declared.rows.Standing.{Standing}
 use Rattle.hd_check_index.specs.Rows.{AreRows}
 use Rattle.hd_check_pointers.proofs.RecordSteps.{from-none}
 use Rattle.hd_check.proofs.OneStore.{IsOne, turned, level-forms-same, level-table-same, reached-same, rows-same, levels-same}
-use Rattle.hd_check.proofs.LevelPhases.{level-10, level-11}
+use Rattle.hd_check.proofs.EarlierFaults.{none-of-all}
+use Rattle.hd_check.proofs.LevelPhases.{level-9, level-10, level-11}
 use Rattle.hd_check.proofs.Joined.{still-sound, was-sound, read-one, firsts-same, none-same}
 use Rattle.hd_check.proofs.levels.level_rows_fault.Goals as goal
 
@@ -30,8 +31,9 @@ level_reach_fault-requires-clause-before g c = λ now.
     let v : VolumeState = c.args.volume.now in
     let w : VolumeState = c.level_names_fault.new.volume in
     let sound = was-sound c.in_ok-found.ensures.read now in
+    let later = c.requires.later sound in
     let once : AreNamedOnce (root_key_length d.types) v = from-none c.in_ok-found.found (sym c.is_some.ensures ∙ c.if-is_some.false) (c.in_ok-found.ensures.none sound) in
-    none-same d 10 v w (read-one c.in_ok-found.ensures.read sound) (level-10 d v (c.requires.later sound) (c.requires.before sound) once)
+    none-same d 10 v w (read-one c.in_ok-found.ensures.read sound) (none-of-all d v 9 10 (omega arith) (c.requires.before sound) (level-10 d v later (level-9 d v later (c.requires.forms sound)) once))
 
 pub returns-then-is_some-2-clause-some : goal.returns-then-is_some-2-clause-some
 returns-then-is_some-2-clause-some g c = λ sound.
@@ -78,7 +80,9 @@ level_order_fault-requires-clause-before g c = λ now.
     let later = c.requires.later sound in
     let once : AreNamedOnce k v = from-none c.in_ok-found.found (sym c.is_some.ensures ∙ c.if-is_some.false) (c.in_ok-found.ensures.none sound) in
     let reached : AreAllReached k w = from-none c.in_ok-found-2.found (sym c.is_some-2.ensures ∙ c.if-is_some-2.false) (c.in_ok-found-2.ensures.none (still-sound c.in_ok-found.ensures.read sound)) in
-    none-same d 11 v x (read-one read sound) (level-11 d v later (level-10 d v later (c.requires.before sound) once) (reached-same w v (turned (read-one c.in_ok-found.ensures.read sound)) k reached))
+    let ten = level-10 d v later (level-9 d v later (c.requires.forms sound)) once in
+    none-same d 11 v x (read-one read sound)
+    (none-of-all d v 9 11 (omega arith) (c.requires.before sound) (level-11 d v later ten (reached-same w v (turned (read-one c.in_ok-found.ensures.read sound)) k reached)))
 
 pub returns-clause-none : goal.returns-clause-none
 returns-clause-none g c = if-ok c.level_order_fault.result c.level_order_fault.ensures.none

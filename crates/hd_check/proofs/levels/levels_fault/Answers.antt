@@ -1,4 +1,4 @@
-use Rattle.std.proofs.Common.{inr, ℕ, List, sym, subst, ◌∙◌}
+use Rattle.std.proofs.Common.{inr, ℕ, List, sym, subst, ◌∙◌, arith}
 use Rattle.hd_dbd.specs.Hierarchy.{Database}
 use Rattle.hd_volume.specs.Volumes.{VolumeState}
 use Rattle.hd_volume.specs.Indexes.{root_key_length}
@@ -8,6 +8,7 @@ use Rattle.hd_check_index.specs.declared.table.NotedBlock.{NotedBlock}
 use Rattle.hd_check_index.specs.Tables.{AreIndexBlocks}
 use Rattle.hd_check_pointers.proofs.RecordSteps.{from-none}
 use Rattle.hd_check.proofs.OneStore.{IsOne, turned, set-formed-same, level-forms-same, level-table-same, levels-same}
+use Rattle.hd_check.proofs.EarlierFaults.{none-of-all}
 use Rattle.hd_check.proofs.LevelPhases.{level-9}
 use Rattle.hd_check.proofs.Joined.{still-sound, was-sound, read-one, firsts-same, none-same}
 use Rattle.hd_check.proofs.levels.levels_fault.Goals as goal
@@ -35,7 +36,7 @@ level_rows_fault-requires-clause-before g c = λ now.
     let v : VolumeState = c.args.volume.now in
     let sound = was-sound c.in_ok-found.ensures.read now in
     let forms : AreFormsRight (root_key_length d.types) v = from-none c.in_ok-found.found (sym c.is_some.ensures ∙ c.if-is_some.false) (c.in_ok-found.ensures.none sound) in
-    none-same d 9 v c.level_forms_fault.new.volume (read-one c.in_ok-found.ensures.read sound) (level-9 d v (c.requires.later sound) (c.requires.before sound) forms)
+    none-same d 9 v c.level_forms_fault.new.volume (read-one c.in_ok-found.ensures.read sound) (none-of-all d v 8 9 (omega arith) (c.requires.before sound) (level-9 d v (c.requires.later sound) forms))
 
 pub returns-then-is_some-2-clause-some : goal.returns-then-is_some-2-clause-some
 returns-then-is_some-2-clause-some g c = λ sound.

@@ -1,5 +1,4 @@
-use Rattle.std.proofs.Common.{◌≡◌, inl, IsTrue, Ok, ℕ, List, ap, sym, subst, ◌∙◌}
-use Rattle.hd_bytes.specs.Blocks.{HasBlock}
+use Rattle.std.proofs.Common.{◌≡◌, inl, ℕ, List, ap, sym, subst, ◌∙◌, arith}
 use Rattle.hd_dbd.specs.Hierarchy.{Database}
 use Rattle.hd_volume.specs.Headers.{header_of}
 use Rattle.hd_volume.specs.Volumes.{VolumeState}
@@ -12,11 +11,10 @@ use Rattle.hd_image.proofs.OneImage.{volume-same}
 use Rattle.hd_image.specs.Right.{ChainIsFormed}
 use Rattle.hd_check_index.specs.declared.noted_blocks.ChainedBlock.{ChainedBlock}
 use Rattle.hd_check_index.specs.IndexPhases.{AreIndexBlocks, IsIndexRight, AreNamedOnce}
-use Rattle.hd_check.specs.Joining.{NoneBefore}
 use Rattle.hd_check_pointers.proofs.RecordSteps.{from-none}
 use Rattle.hd_check.proofs.OneStore.{IsOne, turned, chain-formed-same, bearers-same, in-order-same, sequence-same}
-use Rattle.hd_check.proofs.EarlierFaults.{none-9, none-10, none-11}
-use Rattle.hd_check.proofs.Joined.{still-sound, was-sound, read-one, carried, found-here, firsts-same, none-same, header-says}
+use Rattle.hd_check.proofs.EarlierFaults.{none-of-all, none-9, none-10, none-11}
+use Rattle.hd_check.proofs.Joined.{still-sound, was-sound, read-one, found-here, firsts-same, none-same, header-says}
 use Rattle.hd_check.proofs.phases.chain_fault.Goals as goal
 
 pub returns-then-is_some-clause-some : goal.returns-then-is_some-clause-some
@@ -36,7 +34,7 @@ returns-then-is_some-2-clause-some g c = λ sound.
     let all : AreIndexBlocks v c.block_forms_fault.new.blocks.items = from-none c.in_ok-found.found is-none (c.in_ok-found.ensures.blocks sound) in
     let table : AreIndexBlocks v c.deref.result.now = subst (λ (l : List ChainedBlock). AreIndexBlocks v l) (sym c.deref.ensures.value) all in
     let size = c.block_size-size.ensures.value ∙ e.size in
-    found-here d v 9 c.in_ok-found-2.found (none-9 d v (c.requires.before sound) right) (c.in_ok-found-2.ensures.some d v table top right V size)
+    found-here d v 9 c.in_ok-found-2.found (none-of-all d v 8 9 (omega arith) (c.requires.before sound) (none-9 d v right)) (c.in_ok-found-2.ensures.some d v table top right V size)
 
 pub returns-then-is_some-3-clause-some : goal.returns-then-is_some-3-clause-some
 returns-then-is_some-3-clause-some g c = λ sound.
@@ -54,7 +52,8 @@ returns-then-is_some-3-clause-some g c = λ sound.
     let size = c.block_size-size.ensures.value ∙ e.size in
     let once : AreNamedOnce v = from-none c.in_ok-found-2.found (sym c.is_some-2.ensures ∙ c.if-is_some-2.false) (c.in_ok-found-2.ensures.none d v table top right V) in
     let table-2 : AreIndexBlocks v c.deref-2.result.now = subst (λ (l : List ChainedBlock). AreIndexBlocks v l) (sym c.deref-2.ensures.value) all in
-    found-here d v 10 c.in_ok-found-3.found (none-10 d v (none-9 d v (c.requires.before sound) right) right.version once) (c.in_ok-found-3.ensures.some d v table-2 top right once V size)
+    found-here d v 10 c.in_ok-found-3.found (none-of-all d v 8 10 (omega arith) (c.requires.before sound) (none-10 d v (none-9 d v right) right.version once))
+    (c.in_ok-found-3.ensures.some d v table-2 top right once V size)
 
 pub chain_order_fault-requires-clause-of : goal.chain_order_fault-requires-clause-of
 chain_order_fault-requires-clause-of g c = λ now.
@@ -125,7 +124,7 @@ chain_order_fault-requires-clause-before g c = λ now.
     let once : AreNamedOnce v = from-none c.in_ok-found-2.found (sym c.is_some-2.ensures ∙ c.if-is_some-2.false) (c.in_ok-found-2.ensures.none d v table top right V) in
     let table-2 : AreIndexBlocks v c.deref-2.result.now = subst (λ (l : List ChainedBlock). AreIndexBlocks v l) (sym c.deref-2.ensures.value) all in
     let formed : ChainIsFormed k v = from-none c.in_ok-found-3.found (sym c.is_some-3.ensures ∙ c.if-is_some-3.false) (c.in_ok-found-3.ensures.none d v table-2 top right once V) in
-    none-same d 11 v w e (none-11 d v (none-10 d v (none-9 d v (c.requires.before sound) right) right.version once) right.version formed)
+    none-same d 11 v w e (none-of-all d v 8 11 (omega arith) (c.requires.before sound) (none-11 d v (none-10 d v (none-9 d v right) right.version once) right.version formed))
 
 pub returns-clause-none : goal.returns-clause-none
 returns-clause-none g c = if-ok c.chain_order_fault.result c.chain_order_fault.ensures.none

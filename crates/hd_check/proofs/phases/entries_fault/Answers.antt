@@ -1,4 +1,4 @@
-use Rattle.std.proofs.Common.{◌≡◌, IsTrue, Ok, ℕ, List, true, sym, subst, ◌∙◌}
+use Rattle.std.proofs.Common.{◌≡◌, ℕ, true, sym, ◌∙◌, arith}
 use Rattle.std.specs.List.{list_all}
 use Rattle.hd_dbd.specs.Hierarchy.{Database}
 use Rattle.hd_volume.specs.Volumes.{VolumeState}
@@ -11,7 +11,7 @@ use Rattle.hd_image.specs.IndexFaults.{names_a_root}
 use Rattle.hd_check_index.specs.IndexPhases.{AreNamed}
 use Rattle.hd_check.specs.Joining.{NoneBefore, HasRightBlocks}
 use Rattle.hd_check_pointers.proofs.RecordSteps.{from-none}
-use Rattle.hd_check.proofs.EarlierFaults.{none-13}
+use Rattle.hd_check.proofs.EarlierFaults.{none-of-all, none-13}
 use Rattle.hd_check.proofs.Joined.{found-here}
 use Rattle.hd_check.proofs.phases.entries_fault.Goals as goal
 
@@ -41,4 +41,6 @@ returns-clause-some g c = λ sound.
     let is-none = sym c.is_some.ensures ∙ c.if-is_some.false in
     let all : list_all (λ x. names_a_root d (links_of d.types v) x) (index_entries k v) ≡ true = from-none c.in_ok-found.found is-none (c.in_ok-found.ensures.none sound) in
     let named : AreNamed k v c.wrong_entry_fault.new.named.items = from-none c.in_ok-found.found is-none (c.in_ok-found.ensures.named sound) in
-    found-here d v 13 c.unnamed_root_fault.result (none-13 d v (c.requires.before sound) all) (c.unnamed_root_fault.ensures.some d v R.stand named)
+    let before : NoneBefore d v 12 = c.requires.before sound in
+    found-here d v 13 c.unnamed_root_fault.result (none-of-all d v 12 13 (omega arith) before (none-13 d v (λ k a o high less s. before k a o less s) all))
+    (c.unnamed_root_fault.ensures.some d v R.stand named)

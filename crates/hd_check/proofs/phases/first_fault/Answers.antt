@@ -1,4 +1,4 @@
-use Rattle.std.proofs.Common.{◌≡◌, Ok, List, sym, subst, ◌∙◌}
+use Rattle.std.proofs.Common.{Ok, List, sym, subst, ◌∙◌}
 use Rattle.hd_dbd.specs.Hierarchy.{Database}
 use Rattle.hd_volume.specs.Volumes.{VolumeState}
 use Rattle.hd_volume.proofs.CallSteps.{reads-join, if-ok}

@@ -1,4 +1,4 @@
-use Rattle.std.proofs.Common.{ℕ, List, sym, subst, ◌∙◌}
+use Rattle.std.proofs.Common.{ℕ, List, sym, subst, ◌∙◌, arith}
 use Rattle.hd_dbd.specs.Hierarchy.{Database}
 use Rattle.hd_volume.specs.Volumes.{VolumeState}
 use Rattle.hd_volume.specs.Indexes.{root_key_length}
@@ -8,6 +8,7 @@ use Rattle.hd_check_index.specs.IndexPhases.{IsSequence}
 use Rattle.hd_check.specs.Joining.{HasRightBlocks}
 use Rattle.hd_check_pointers.proofs.RecordSteps.{from-none}
 use Rattle.hd_check.proofs.OneStore.{IsOne, turned, right-same, sequence-same, names-right-same}
+use Rattle.hd_check.proofs.EarlierFaults.{none-of-all}
 use Rattle.hd_check.proofs.LevelPhases.{index-12}
 use Rattle.hd_check.proofs.Joined.{still-sound, was-sound, read-one, firsts-same, none-same}
 use Rattle.hd_check.proofs.phases.index_fault.Goals as goal
@@ -37,7 +38,7 @@ entries_fault-requires-clause-before g c = λ now.
     let sound = was-sound c.in_ok-found.ensures.read now in
     let R : HasRightBlocks d v c.args.places.now = c.requires.right sound in
     let index = from-none c.in_ok-found.found (sym c.is_some.ensures ∙ c.if-is_some.false) (c.in_ok-found.ensures.none sound) in
-    none-same d 12 v w (read-one c.in_ok-found.ensures.read sound) (index-12 d v (c.requires.before sound) R.volume index.0 index.1)
+    none-same d 12 v w (read-one c.in_ok-found.ensures.read sound) (none-of-all d v 8 12 (omega arith) (c.requires.before sound) (index-12 d v R.volume index.0 index.1))
 
 pub returns-clause-none : goal.returns-clause-none
 returns-clause-none g c = if-ok c.entries_fault.result c.entries_fault.ensures.none

@@ -1,4 +1,4 @@
-use Rattle.std.proofs.Common.{◌≡◌, IsTrue, Ok, ℕ, List, Option, IfNone, sym, subst, ◌∙◌}
+use Rattle.std.proofs.Common.{ℕ, List, sym, subst, ◌∙◌}
 use Rattle.hd_dbd.specs.Types.{SegmentType}
 use Rattle.hd_dbd.specs.Hierarchy.{Database}
 use Rattle.hd_volume.specs.Volumes.{VolumeState}
@@ -9,8 +9,7 @@ use Rattle.hd_image.specs.Records.{links_of}
 use Rattle.hd_check_pointers.specs.declared.namings.Naming.{Naming}
 use Rattle.hd_check_pointers.specs.Tables.{ArePredecessors, AreForwards}
 use Rattle.hd_check_pointers.specs.Namings.{AreNamings}
-use Rattle.hd_check_pointers.specs.Matched.{IsMatched}
-use Rattle.hd_check.specs.Joining.{NoneBefore, HasRightBlocks}
+use Rattle.hd_check.specs.Joining.{HasRightBlocks}
 use Rattle.hd_check_pointers.proofs.RecordSteps.{from-none}
 use Rattle.hd_check_pointers.proofs.PlaceNumbers.{matched-same}
 use Rattle.hd_check.proofs.OneStore.{IsOne, turned}

@@ -1,11 +1,10 @@
-use Rattle.std.proofs.Common.{◌≡◌, IsTrue, Ok, ℕ, List, sym, subst, ◌∙◌}
+use Rattle.std.proofs.Common.{Ok, ℕ, List, sym, subst, ◌∙◌}
 use Rattle.hd_dbd.specs.Types.{SegmentType}
 use Rattle.hd_dbd.specs.Hierarchy.{Database}
 use Rattle.hd_volume.specs.Volumes.{VolumeState}
 use Rattle.hd_volume.proofs.CallSteps.{read-ok, reads-join}
 use Rattle.hd_volume.proofs.PutLemmas.{if-none-map}
-use Rattle.hd_links.specs.Links.{Links}
-use Rattle.hd_links.specs.Pointers.{TwinsLinkBack, KeysAscend, AreLinked}
+use Rattle.hd_links.specs.Pointers.{TwinsLinkBack, KeysAscend}
 use Rattle.hd_image.specs.Records.{links_of}
 use Rattle.hd_check_pointers.specs.Tables.{ArePredecessors, AreOwners}
 use Rattle.hd_check_pointers.specs.Matched.{IsMatched}
