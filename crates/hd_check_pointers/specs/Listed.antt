@@ -31,6 +31,10 @@ pointer_faults address wrong = faults_of (fault_if NamesNothing address wrong.no
 abbrev pub record_faults : List SegmentType → Links → ℕ → List Fault
 record_faults types m h = faults_of (fault_if Deleted h (cond (h == 0) 0 (m.delete_byte h))) ++ pointer_faults h (wrong_among m (pointers_of types m h))
 
+-- what is listed behind some faults is all that is wrong with a record in the third phase
+abbrev pub IsRecordListed : List SegmentType → Links → ℕ → List Fault → List Fault → Type 0
+IsRecordListed types m h old new = new ≡ old ++ record_faults types m h
+
 -- ---- phase 4
 
 -- the pointers behind those in front that name an address

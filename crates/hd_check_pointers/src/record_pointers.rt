@@ -9,7 +9,7 @@ ghost use Rattle.hd_dbd.specs.Hierarchy.{Database};
 ghost use Rattle.hd_image.specs.PointerFaults.{child_pointers, pointers_of};
 ghost use Rattle.hd_check_blocks.specs.Places.{ArePlaces};
 ghost use Rattle.hd_check_pointers.specs.Judging.{wrong_among, wrong_or, IsRecordRight, IsWrongRecord, IsPointerFault, OfStored, OfPlaced};
-ghost use Rattle.hd_check_pointers.specs.Listed.{pointer_faults, record_faults};
+ghost use Rattle.hd_check_pointers.specs.Listed.{pointer_faults, IsRecordListed};
 ghost use Rattle.hd_check_pointers.specs.Matched.{IfRoots};
 
 use hd_check_blocks::{Directory, Fault, Place, code_near, fault_if, list_fault};
@@ -217,7 +217,7 @@ pub fn list_segment(
     address: u32,
     segment: &[u8],
 ) -> Result<(), Refused>
-    ensures faults { OnOk result (OfPlaced dbd.now.types places.now address segment.now (λ m. faults.new.items ≡ faults.old.items ++ record_faults dbd.now.types m address)) }
+    ensures faults { OnOk result (OfPlaced dbd.now.types places.now address segment.now (λ m. IsRecordListed dbd.now.types m address faults.old.items faults.new.items)) }
     ensures refusal { OnlyMemory result }
 {
     let code = segment.first().copied().unwrap_or(0);
@@ -244,7 +244,7 @@ pub fn list_roots(
     first: u32,
     last: u32,
 ) -> Result<(), Refused>
-    ensures faults { OnOk result ((d : Database) (v : VolumeState) → ArePlaces d.types v places.now → IfRoots v first last (faults.new.items ≡ faults.old.items ++ record_faults d.types (links_of d.types v) 0)) }
+    ensures faults { OnOk result ((d : Database) (v : VolumeState) → ArePlaces d.types v places.now → IfRoots v first last (IsRecordListed d.types (links_of d.types v) 0 faults.old.items faults.new.items)) }
     ensures refusal { OnlyMemory result }
 {
     list_pointers(faults, 0, judge_roots(places, directory, first, last))

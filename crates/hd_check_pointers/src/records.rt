@@ -9,7 +9,7 @@ ghost use Rattle.hd_check_blocks.specs.Phases.{IsLeastOf};
 ghost use Rattle.hd_check_blocks.specs.Places.{ArePlaces};
 ghost use Rattle.hd_check_blocks.specs.Listing.{AreStanding};
 ghost use Rattle.hd_check_pointers.specs.Judging.{IsRecordRight, FindsWrongRecord};
-ghost use Rattle.hd_check_pointers.specs.Listed.{record_faults};
+ghost use Rattle.hd_check_pointers.specs.Listed.{IsRecordListed};
 ghost use Rattle.hd_check_pointers.specs.Tables.{AreForwards};
 ghost use Rattle.hd_check_pointers.specs.Namings.{segment_namings, AreNamings};
 ghost use Rattle.hd_check_blocks.specs.Finding.{WhereNone, WhereSome};
@@ -109,7 +109,7 @@ fn list_record<S: BlockStore>(
     requires of { IsTrue volume.old.is_sound → IsVolumeOf dbd.now volume.old }
     requires there { IsTrue volume.old.is_sound → IsSegment (links_of dbd.now.types volume.old) address }
     ensures read { IsRead volume.old result volume.new }
-    ensures faults { OnOk result (IsTrue volume.old.is_sound → ArePlaces dbd.now.types volume.old places.now → faults.new.items ≡ faults.old.items ++ record_faults dbd.now.types (links_of dbd.now.types volume.old) address) }
+    ensures faults { OnOk result (IsTrue volume.old.is_sound → ArePlaces dbd.now.types volume.old places.now → IsRecordListed dbd.now.types (links_of dbd.now.types volume.old) address faults.old.items faults.new.items) }
     ensures refusal { OnlyDeviceOrMemory result }
 {
     let segment = volume.segment_at(address)?;

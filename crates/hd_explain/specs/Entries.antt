@@ -1,6 +1,7 @@
 -- The entries of the table as plain texts, and how they are written.
-use Rattle.std.specs.Prelude.{ℕ, List, ◌++◌, Option, find, map, drop, length, codes}
+use Rattle.std.specs.Prelude.{ℕ, List, ◌++◌, Option, option_map, find, map, drop, length, codes}
 use Rattle.std.specs.Str.{str_eq_ignore_ascii_case}
+use Rattle.std.specs.Borrow.{Bor}
 use Rattle.hd_explain.specs.declared.entry.Entry.{Entry}
 use Rattle.hd_explain.specs.declared.entry.Kind.{Kind}
 use Rattle.hd_explain.specs.declared.entry.Kind.TheVariants.{VolumeFault, SourceFault, DeckFault, StreamFault, Status, Refusal, ExitStatus, Line}
@@ -16,6 +17,10 @@ plains entries read = map (λ entry. plain entry read) entries
 -- the first entry whose word is this one, but for case
 unfoldable pub entry_of : List ℕ → List (Entry (List ℕ)) → Option (Entry (List ℕ))
 entry_of word entries = find (λ entry. str_eq_ignore_ascii_case entry.word word) entries
+
+-- an entry of the table that was found, with its texts as they are read
+abbrev pub plain_found : Option (Bor (Entry (Bor (List ℕ)))) → Option (Entry (List ℕ))
+plain_found found = option_map (λ entry. plain entry.now (λ text. text.now)) found
 
 -- what a word is
 abbrev pub name_of : Kind → List ℕ

@@ -1,6 +1,6 @@
-ghost use Rattle.std.specs.Prelude.{◌≡◌, option_map};
+ghost use Rattle.std.specs.Prelude.{◌≡◌};
 ghost use Rattle.std.specs.Option.{option_or};
-ghost use Rattle.hd_explain.specs.Entries.{plain, plains, entry_of};
+ghost use Rattle.hd_explain.specs.Entries.{plain_found, plains, entry_of};
 ghost use Rattle.hd_explain.specs.Tables.{all_entries};
 
 use crate::calls::{REFUSALS, STATUS_CODES};
@@ -14,7 +14,7 @@ use crate::volumes::VOLUME_FAULTS;
 
 /// The entry of a word, or of the words of a line, in upper or lower case; none where nothing is known of it.
 pub fn explain(word: &str) -> Option<&'static Explanation>
-    ensures { option_map (λ entry. plain entry.now (λ text. text.now)) result ≡ entry_of word.now all_entries }
+    ensures { plain_found result ≡ entry_of word.now all_entries }
 {
     let found = entry_or(None, VOLUME_FAULTS, word);
     let found = entry_or(found, SOURCE_FAULTS, word);
@@ -32,8 +32,7 @@ fn entry_or<'a>(
     entries: &'a [Explanation],
     word: &str,
 ) -> Option<&'a Explanation>
-    ensures { option_map (λ entry. plain entry.now (λ text. text.now)) result ≡
-        option_or (option_map (λ entry. plain entry.now (λ text. text.now)) found.entry) (entry_of word.now (plains entries.now (λ text. text.now))) }
+    ensures { plain_found result ≡ option_or (plain_found found.entry) (entry_of word.now (plains entries.now (λ text. text.now))) }
 {
     match found {
         Some(entry) => Some(entry),

@@ -1,11 +1,13 @@
 -- What a journal keeps.
-use Rattle.std.specs.Prelude.{◌≡◌, ◌≢◌, ℕ, ◌+◌, ◌<◌, ◌≤◌, Bool, false, IsTrue, List, [], ◌∷◌, map, length, slice_index, replicate, vec_len}
+use Rattle.std.specs.Prelude.{◌≡◌, ◌≢◌, ◌⊎◌, ℕ, ◌+◌, ◌<◌, ◌≤◌, Bool, false, IsTrue, List, [], ◌∷◌, map, length, slice_index, replicate, vec_len}
 use Rattle.std.specs.Vec.{vec_capacity}
 use Rattle.hd_stores.specs.Stores.{Commit, Committed, commits_of}
 use Rattle.hd_journal.specs.Disk.{Mark, State}
 use Rattle.hd_journal.specs.Log.{image, recovered}
 use Rattle.hd_journal.specs.States.{IsSettled, IsPublished}
 use Rattle.hd_journal.specs.Framed.{fresh, before, IsFramed, IsSafe}
+use Rattle.hd_dbd.specs.declared.answer.Refused.{Refused}
+use Rattle.hd_dbd.specs.declared.answer.Refused.TheVariants.{Memory}
 use Rattle.hd_journal.specs.declared.head.Head.{Head}
 use Rattle.hd_journal.specs.declared.journal.Stage.{Stage}
 use Rattle.hd_journal.specs.declared.journal.Stage.TheVariants.{Collecting, Published, Doubtful}
@@ -57,6 +59,10 @@ committed_in image tried marks = record { image = image; tried = tried; since = 
 abbrev pub IsCommitted : List ℕ → Committed → Committed → Type 0
 IsCommitted contents old new = (new.image ≡ contents) × (new.tried ≡ contents) × (new.before ≡ commits_of old)
 
+-- a commit of these bytes failed: none was tried, or a crash may leave them too
+abbrev pub IsTried : List ℕ → Committed → Committed → Type 0
+IsTried contents old new = (new ≡ old) ⊎ (new ≡ record old { tried = contents })
+
 -- what a crash leaves of a journal
 abbrev pub committed_of : {D : Type 0} → (D → State) → Journal D → Committed
 committed_of state j = committed_in (last_of state j) (tried_in j.stage (last_of state j) (contents_of state j)) (state j.disk).marks
@@ -82,3 +88,8 @@ pub record IsJournal {D : Type 0} (is_honest : Bool) (is_usable : D → Bool) (s
   pub first : j.failed ≡ false → j.stage ≡ Published → 0 < length j.kept.items → slice_index j.kept.items 0 ≢ 0
   pub marked : IsTrue is_honest → IsMarked (last_of state j) (state j.disk).marks
   pub safe : IsTrue is_honest → IsSafe (committed_of state j) (state j.disk)
+
+-- A growth by so many blocks is refused for want of memory: fewer are reserved, and nothing changes that callers see.
+abbrev pub IsOutOfMemory : {D : Type 0} → Bool → (D → State) → ℕ → Refused → Journal D → Journal D → Type 0
+IsOutOfMemory is_honest state blocks refused old new =
+    (refused ≡ Memory) × (old.reserved < blocks) × (new.failed ≡ old.failed) × (new.reserved ≡ old.reserved) × (IsTrue is_honest → contents_of state new ≡ contents_of state old)

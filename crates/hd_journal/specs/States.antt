@@ -1,12 +1,16 @@
 -- What the steps of a commit and of a recovery leave.
-use Rattle.std.specs.Prelude.{Bool, true, ◌≡◌, ◌⊎◌, ℕ, ◌+◌, ◌≤◌, List, length, slice_index}
+use Rattle.std.specs.Prelude.{Bool, true, ◌≡◌, ◌⊎◌, ℕ, ◌+◌, ◌*◌, ◌<◌, ◌≤◌, List, length, slice_index}
 use Rattle.hd_journal.specs.Disk.{State, Torn, HasLog, HasVolume, Leaves}
-use Rattle.hd_journal.specs.Log.{frame_at, gate_at, head_of, is_marked, image, recovered, IsShut, Ends, Fits, Spares}
+use Rattle.hd_journal.specs.Log.{frame_at, block_no, gate_at, head_of, is_marked, image, recovered, written_from, IsShut, Ends, Fits, Spares, HasFrames}
 use Rattle.hd_journal.specs.declared.head.Head.{Head}
 
 -- the log is as it was, and the volume makes the same image with it
 abbrev pub IsSpared : Head → Bool → List ℕ → List ℕ → List ℕ → List ℕ → Type 0
 IsSpared head is_shut log first l v = (l ≡ log) × Spares head is_shut log first v
+
+-- the image that a head makes of a disk's log and volume
+abbrev pub image_on : Head → State → List ℕ
+image_on head s = image head s.log s.volume
 
 -- two volumes differ in their first byte at most
 abbrev pub SameBehind : List ℕ → List ℕ → Type 0
@@ -15,6 +19,23 @@ SameBehind a b = (k : ℕ) → 1 ≤ k → slice_index b k ≡ slice_index a k
 -- but for its first byte a volume is the first or the last, or that byte is 0
 abbrev pub IsShutBetween : List ℕ → List ℕ → List ℕ → List ℕ → Type 0
 IsShutBetween first last l v = SameBehind first v ⊎ (slice_index v 0 ≡ 0) ⊎ SameBehind last v
+
+-- a crash in between leaves the old volume or the image that a head makes, but for the first byte, or a volume whose first byte is 0
+abbrev pub LeavesShut : Head → State → State → Type 0
+LeavesShut head old new = Leaves (IsShutBetween old.volume (image_on head old)) old new
+
+-- the fact holds where the image has a byte, and a slot of its head has block 0
+abbrev pub IfFirstFramed : Head → List ℕ → Type 0 → Type 0
+IfFirstFramed head log fact = 0 < head.len → (i : ℕ) → i < head.count → block_no head.size log i ≡ 0 → fact
+
+-- where a volume has the frames of the first i slots put in, the new one has those of the first n
+abbrev pub PutsFrames : Head → Bool → ℕ → ℕ → State → State → Type 0
+PutsFrames head is_shut i n old new =
+    (first : List ℕ) → HasFrames head (written_from is_shut) old.log first i old.volume → HasFrames head (written_from is_shut) old.log first n new.volume
+
+-- the fact holds of each byte of block i
+abbrev pub OfBlock : ℕ → ℕ → (ℕ → Type 0) → Type 0
+OfBlock size i fact = (k : ℕ) → i * size ≤ k → k < (i + 1) * size → fact k
 
 -- a log whose gate is being shut
 abbrev pub MayShut : List ℕ → List ℕ → Type 0

@@ -1,7 +1,7 @@
-ghost use Rattle.std.specs.Prelude.{◌≡◌, ◌+◌, ◌<◌, ◌≤◌, ℕ, IsTrue, length, replicate, OnOk};
+ghost use Rattle.std.specs.Prelude.{◌≡◌, ◌+◌, ◌<◌, ◌≤◌, IsTrue, length, replicate, OnOk};
 ghost use Rattle.hd_journal.specs.Disk.{Leaves};
-ghost use Rattle.hd_journal.specs.Log.{block_no, image, Fits, SameSlots};
-ghost use Rattle.hd_journal.specs.States.{IsSettled, IsOpened, IsPublished, SameBehind, IsShutBetween, StandsFor, StandsForEither};
+ghost use Rattle.hd_journal.specs.Log.{image, Fits, SameSlots};
+ghost use Rattle.hd_journal.specs.States.{IsSettled, IsOpened, IsPublished, SameBehind, IfFirstFramed, LeavesShut, StandsFor, StandsForEither};
 
 use crate::disk::{Disk, Failed};
 use crate::frames::append_gate;
@@ -58,8 +58,7 @@ pub fn finish<D: Disk>(disk: &mut D, head: Head, frame: &mut [u8]) -> Result<(),
     ensures behind { IsTrue D.is_honest → SameBehind (D.state disk.old).log (D.state disk.new).log }
     ensures same { IsTrue D.is_honest → image head (D.state disk.new).log (D.state disk.new).volume ≡ image head (D.state disk.old).log (D.state disk.old).volume }
     ensures leaves { IsTrue D.is_honest → Leaves (StandsFor (image head (D.state disk.old).log (D.state disk.old).volume)) (D.state disk.old) (D.state disk.new) }
-    ensures shut { IsTrue D.is_honest → 0 < head.len → (i : ℕ) → i < head.count → block_no head.size (D.state disk.old).log i ≡ 0
-        → Leaves (IsShutBetween (D.state disk.old).volume (image head (D.state disk.old).log (D.state disk.old).volume)) (D.state disk.old) (D.state disk.new) }
+    ensures shut { IsTrue D.is_honest → IfFirstFramed head (D.state disk.old).log (LeavesShut head (D.state disk.old) (D.state disk.new)) }
 {
     redo(disk, head, frame)?;
     shut(disk)

@@ -1,9 +1,9 @@
 ghost use Rattle.std.specs.Prelude.{◌≡◌, ◌+◌, ◌-◌, ◌<◌, ◌≤◌, IsTrue, length, replicate, OnOk};
 ghost use Rattle.hd_bytes.specs.Numbers.{number_at};
 ghost use Rattle.hd_journal.specs.Disk.{Leaves};
-ghost use Rattle.hd_journal.specs.Log.{gate_at, image, Fits, SameSlots};
+ghost use Rattle.hd_journal.specs.Log.{gate_at, Fits, SameSlots};
 ghost use Rattle.hd_journal.specs.Framed.{before};
-ghost use Rattle.hd_journal.specs.States.{IsPublished, StandsForEither};
+ghost use Rattle.hd_journal.specs.States.{IsPublished, StandsForEither, image_on};
 
 use crate::disk::{Disk, Failed};
 use crate::frames::{append_gate, before};
@@ -57,8 +57,7 @@ pub fn publish_next<D: Disk>(
     ensures published { OnOk result (IsTrue D.is_honest → IsPublished head (D.state disk.new)) }
     ensures volume { IsTrue D.is_honest → (D.state disk.new).volume ≡ (D.state disk.old).volume }
     ensures slots { IsTrue D.is_honest → SameSlots head.size head.count (D.state disk.old).log (D.state disk.new).log }
-    ensures leaves { IsTrue D.is_honest → Leaves (StandsForEither (image (before last) (D.state disk.old).log (D.state disk.old).volume) (image head (D.state disk.old).log (D.state disk.old).volume))
-        (D.state disk.old) (D.state disk.new) }
+    ensures leaves { IsTrue D.is_honest → Leaves (StandsForEither (image_on (before last) (D.state disk.old)) (image_on head (D.state disk.old))) (D.state disk.old) (D.state disk.new) }
 {
     let place = gate_place(before(last));
     append_gate(disk, head, zeros, frame)?;

@@ -50,7 +50,7 @@ impl<D: Disk> Journal<D> {
     ghost use Rattle.hd_bytes.specs.Ranges.{bytes_at};
     ghost use Rattle.hd_journal.specs.Disk.{Leaves};
     ghost use Rattle.hd_journal.specs.States.{IsShutBetween};
-    ghost use Rattle.hd_journal.specs.Journals.{IsJournal, contents_of, last_of, committed_of};
+    ghost use Rattle.hd_journal.specs.Journals.{IsJournal, IsOutOfMemory, contents_of, last_of, committed_of};
 
     /// All bytes.
     pub fn length(&self) -> u64
@@ -193,9 +193,7 @@ impl<D: Disk> Journal<D> {
         requires kept { IsJournal D.is_honest D.is_usable D.state self.old }
         ensures kept { IsJournal D.is_honest D.is_usable D.state self.new }
         ensures ok { OnOk result ((self.new.failed ≡ false) × (self.old.failed ≡ false)) }
-        ensures refusal { IfErr result (λ e. (e ≡ Refused.Device) × (self.new.failed ≡ true)
-            ⊎ (e ≡ Refused.Memory) × (self.old.reserved < blocks) × (self.new.failed ≡ self.old.failed) × (self.new.reserved ≡ self.old.reserved)
-            × (IsTrue D.is_honest → contents_of D.state self.new ≡ contents_of D.state self.old)) }
+        ensures refusal { IfErr result (λ e. (e ≡ Refused.Device) × (self.new.failed ≡ true) ⊎ IsOutOfMemory D.is_honest D.state blocks e self.old self.new) }
         ensures room { OnOk result (self.old.reserved - blocks ≤ self.new.reserved) }
         ensures value { OnOk result (IsTrue D.is_honest → contents_of D.state self.new ≡ grown self.old.head.size (contents_of D.state self.old) blocks) }
         ensures committed { IsTrue D.is_honest → committed_of D.state self.new ≡ committed_of D.state self.old }

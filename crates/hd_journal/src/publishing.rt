@@ -1,7 +1,7 @@
-ghost use Rattle.std.specs.Prelude.{◌≡◌, ◌≢◌, ◌⊎◌, ◌+◌, ◌<◌, ◌≤◌, true, false, IsTrue, length, replicate, slice_index, OnOk, OnErr};
+ghost use Rattle.std.specs.Prelude.{◌≡◌, ◌≢◌, ◌+◌, ◌<◌, ◌≤◌, true, false, IsTrue, length, replicate, slice_index, OnOk, OnErr};
 ghost use Rattle.hd_journal.specs.Disk.{Leaves};
-ghost use Rattle.hd_journal.specs.Log.{image, Fits, SameSlots};
-ghost use Rattle.hd_journal.specs.States.{IsPublished, StandsForEither};
+ghost use Rattle.hd_journal.specs.Log.{Fits, SameSlots};
+ghost use Rattle.hd_journal.specs.States.{IsPublished, StandsForEither, image_on};
 ghost use Rattle.hd_journal.specs.Journals.{Holds};
 
 use crate::committing::publish_first;
@@ -39,8 +39,7 @@ fn publish<D: Disk>(
     ensures published { OnOk result (IsTrue D.is_honest → IsPublished head (D.state disk.new)) }
     ensures volume { IsTrue D.is_honest → (D.state disk.new).volume ≡ (D.state disk.old).volume }
     ensures slots { IsTrue D.is_honest → SameSlots head.size head.count (D.state disk.old).log (D.state disk.new).log }
-    ensures leaves { IsTrue D.is_honest → Leaves (StandsForEither (image last (D.state disk.old).log (D.state disk.old).volume) (image head (D.state disk.old).log (D.state disk.old).volume))
-        (D.state disk.old) (D.state disk.new) }
+    ensures leaves { IsTrue D.is_honest → Leaves (StandsForEither (image_on last (D.state disk.old)) (image_on head (D.state disk.old))) (D.state disk.old) (D.state disk.new) }
 {
     match stage {
         Stage::Collecting => publish_first(disk, head, zeros, frame),
@@ -52,7 +51,7 @@ fn publish<D: Disk>(
 impl<D: Disk> Journal<D> {
     ghost use Rattle.hd_journal.specs.Disk.{Leaves, LeavesMeanwhile};
     ghost use Rattle.hd_journal.specs.States.{StandsFor, StandsForEither};
-    ghost use Rattle.hd_journal.specs.Journals.{IsJournal, IsCommitted, contents_of, committed_of};
+    ghost use Rattle.hd_journal.specs.Journals.{IsJournal, IsCommitted, IsTried, contents_of, committed_of};
 
     /// Makes all that was written last. A crash at any moment leaves the image of the last commit or the contents, and after
     /// `Ok` the contents.
@@ -63,8 +62,7 @@ impl<D: Disk> Journal<D> {
         ensures err { OnErr result (self.new.failed ≡ true) }
         ensures contents { OnOk result (IsTrue D.is_honest → contents_of D.state self.new ≡ contents_of D.state self.old) }
         ensures committed { OnOk result (IsTrue D.is_honest → IsCommitted (contents_of D.state self.old) (committed_of D.state self.old) (committed_of D.state self.new)) }
-        ensures fails { OnErr result (self.old.failed ≡ false → IsTrue D.is_honest → (committed_of D.state self.new ≡ committed_of D.state self.old)
-            ⊎ (committed_of D.state self.new ≡ record (committed_of D.state self.old) { tried = contents_of D.state self.old })) }
+        ensures fails { OnErr result (self.old.failed ≡ false → IsTrue D.is_honest → IsTried (contents_of D.state self.old) (committed_of D.state self.old) (committed_of D.state self.new)) }
         ensures leaves { self.old.failed ≡ false → IsTrue D.is_honest
             → LeavesMeanwhile (StandsForEither (committed_of D.state self.old).image (contents_of D.state self.old)) (D.state self.old.disk) (D.state self.new.disk) }
         ensures dead { self.old.failed ≡ true → self.new ≡ self.old }
@@ -148,8 +146,7 @@ impl<D: Disk> Journal<D> {
         ensures err { OnErr result (self.new.failed ≡ true) }
         ensures contents { IsTrue D.is_honest → contents_of D.state self.new ≡ contents_of D.state self.old }
         ensures committed { OnOk result (IsTrue D.is_honest → IsCommitted (contents_of D.state self.old) (committed_of D.state self.old) (committed_of D.state self.new)) }
-        ensures fails { OnErr result (IsTrue D.is_honest → (committed_of D.state self.new ≡ committed_of D.state self.old)
-            ⊎ (committed_of D.state self.new ≡ record (committed_of D.state self.old) { tried = contents_of D.state self.old })) }
+        ensures fails { OnErr result (IsTrue D.is_honest → IsTried (contents_of D.state self.old) (committed_of D.state self.old) (committed_of D.state self.new)) }
         ensures leaves { IsTrue D.is_honest → LeavesMeanwhile (StandsForEither (committed_of D.state self.old).image (contents_of D.state self.old)) (D.state self.old.disk) (D.state self.new.disk) }
         ensures size { self.new.head.size ≡ self.old.head.size }
         ensures reserved { self.new.reserved ≡ self.old.reserved }

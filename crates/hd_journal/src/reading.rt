@@ -2,6 +2,7 @@ ghost use Rattle.std.specs.Prelude.{◌≡◌, ◌≢◌, ◌+◌, ◌-◌, ◌*
 ghost use Rattle.hd_bytes.specs.Ranges.{bytes_at};
 ghost use Rattle.hd_bytes.specs.Numbers.{number_at};
 ghost use Rattle.hd_journal.specs.Log.{frame_at, base_byte, image};
+ghost use Rattle.hd_journal.specs.States.{OfBlock, image_on};
 ghost use Rattle.hd_journal.specs.Framed.{IsFramed};
 
 use crate::disk::{Disk, Failed};
@@ -79,8 +80,7 @@ fn read_part<D: Disk>(
     requires framed { IsTrue D.is_honest → IsFramed (D.state disk.now) head places.now }
     ensures len { length buf.new ≡ length buf.old }
     ensures before { (k : ℕ) → k < i * head.size → slice_index buf.new k ≡ slice_index buf.old k }
-    ensures part { OnOk result (IsTrue D.is_honest → (k : ℕ) → i * head.size ≤ k → k < (i + 1) * head.size → k < length buf.old
-        → slice_index buf.new k ≡ slice_index (image head (D.state disk.now).log (D.state disk.now).volume) (n * head.size + k)) }
+    ensures part { OnOk result (IsTrue D.is_honest → OfBlock head.size i (λ k. k < length buf.old → slice_index buf.new k ≡ slice_index (image_on head (D.state disk.now)) (n * head.size + k))) }
 {
     let size = head.size as usize;
     let from = i * size;

@@ -1,7 +1,6 @@
 ghost use Rattle.std.specs.Prelude.{◌≡◌, ◌≢◌, ◌+◌, ◌*◌, ◌<◌, ◌≤◌, None, true, false, ℕ, IsTrue, List, length, slice_index, IfOk, IfSome, OnOk};
-ghost use Rattle.hd_journal.specs.Disk.{Leaves};
 ghost use Rattle.hd_journal.specs.Log.{frame_at, block_no, no_block, image, skipped, written_from, Fits, HasFrames, HasFirst};
-ghost use Rattle.hd_journal.specs.States.{IsStill, IsSparing, IsShutBetween, Redoes};
+ghost use Rattle.hd_journal.specs.States.{IsStill, IsSparing, IfFirstFramed, LeavesShut, PutsFrames, Redoes, image_on};
 
 use crate::disk::{Disk, Failed};
 use crate::head::{Head, NO_BLOCK, frame_place};
@@ -98,8 +97,7 @@ fn copy_frame<D: Disk>(
     ensures usable { OnOk result (IsTrue (D.is_usable disk.new)) }
     ensures frame { length frame.new ≡ length frame.old }
     ensures log { IsTrue D.is_honest → (D.state disk.new).log ≡ (D.state disk.old).log }
-    ensures copied { OnOk result (IsTrue D.is_honest → (first : List ℕ) → HasFrames head (written_from is_shut) (D.state disk.old).log first i (D.state disk.old).volume
-        → HasFrames head (written_from is_shut) (D.state disk.old).log first (i + 1) (D.state disk.new).volume) }
+    ensures copied { OnOk result (IsTrue D.is_honest → PutsFrames head is_shut i (i + 1) (D.state disk.old) (D.state disk.new)) }
     ensures redoes { IsTrue D.is_honest → (first : List ℕ) → IsSparing head is_shut first (D.state disk.old) → Redoes head is_shut first (D.state disk.old) (D.state disk.new) }
 {
     disk.read_log(frame_place(head, i), frame)?;
@@ -125,8 +123,7 @@ fn copy<D: Disk>(disk: &mut D, head: Head, is_shut: bool, frame: &mut [u8]) -> R
     ensures usable { OnOk result (IsTrue (D.is_usable disk.new)) }
     ensures frame { length frame.new ≡ length frame.old }
     ensures log { IsTrue D.is_honest → (D.state disk.new).log ≡ (D.state disk.old).log }
-    ensures copied { OnOk result (IsTrue D.is_honest → (first : List ℕ) → HasFrames head (written_from is_shut) (D.state disk.old).log first 0 (D.state disk.old).volume
-        → HasFrames head (written_from is_shut) (D.state disk.old).log first head.count (D.state disk.new).volume) }
+    ensures copied { OnOk result (IsTrue D.is_honest → PutsFrames head is_shut 0 head.count (D.state disk.old) (D.state disk.new)) }
     ensures redoes { IsTrue D.is_honest → (first : List ℕ) → IsSparing head is_shut first (D.state disk.old) → Redoes head is_shut first (D.state disk.old) (D.state disk.new) }
 {
     for i in 0..head.count {
@@ -152,8 +149,7 @@ fn put_frames<D: Disk>(
     ensures usable { OnOk result (IsTrue (D.is_usable disk.new)) }
     ensures frame { length frame.new ≡ length frame.old }
     ensures long { OnOk result (IsTrue D.is_honest → length (D.state disk.new).volume ≡ head.len) }
-    ensures done { OnOk result (IsTrue D.is_honest → (k : ℕ) → written_from is_shut ≤ k → k < head.len
-        → slice_index (D.state disk.new).volume k ≡ slice_index (image head (D.state disk.old).log (D.state disk.old).volume) k) }
+    ensures done { OnOk result (IsTrue D.is_honest → (k : ℕ) → written_from is_shut ≤ k → k < head.len → slice_index (D.state disk.new).volume k ≡ slice_index (image_on head (D.state disk.old)) k) }
     ensures still { OnOk result (IsTrue D.is_honest → IsStill (D.state disk.new)) }
     ensures redoes { IsTrue D.is_honest → Redoes head is_shut (D.state disk.old).volume (D.state disk.old) (D.state disk.new) }
 {
@@ -178,7 +174,7 @@ fn redo_shut<D: Disk>(disk: &mut D, head: Head, byte: u8, frame: &mut [u8]) -> R
     ensures done { OnOk result (IsTrue D.is_honest → (D.state disk.new).volume ≡ image head (D.state disk.old).log (D.state disk.old).volume) }
     ensures still { OnOk result (IsTrue D.is_honest → IsStill (D.state disk.new)) }
     ensures redoes { IsTrue D.is_honest → Redoes head false (D.state disk.old).volume (D.state disk.old) (D.state disk.new) }
-    ensures shut { IsTrue D.is_honest → Leaves (IsShutBetween (D.state disk.old).volume (image head (D.state disk.old).log (D.state disk.old).volume)) (D.state disk.old) (D.state disk.new) }
+    ensures shut { IsTrue D.is_honest → LeavesShut head (D.state disk.old) (D.state disk.new) }
 {
     disk.write_volume(0, &[0])?;
     disk.sync_volume()?;
@@ -202,8 +198,7 @@ pub fn redo<D: Disk>(disk: &mut D, head: Head, frame: &mut [u8]) -> Result<(), F
     ensures done { OnOk result (IsTrue D.is_honest → (D.state disk.new).volume ≡ image head (D.state disk.old).log (D.state disk.old).volume) }
     ensures still { OnOk result (IsTrue D.is_honest → IsStill (D.state disk.new)) }
     ensures redoes { IsTrue D.is_honest → Redoes head false (D.state disk.old).volume (D.state disk.old) (D.state disk.new) }
-    ensures shut { IsTrue D.is_honest → 0 < head.len → (i : ℕ) → i < head.count → block_no head.size (D.state disk.old).log i ≡ 0
-        → Leaves (IsShutBetween (D.state disk.old).volume (image head (D.state disk.old).log (D.state disk.old).volume)) (D.state disk.old) (D.state disk.new) }
+    ensures shut { IsTrue D.is_honest → IfFirstFramed head (D.state disk.old).log (LeavesShut head (D.state disk.old) (D.state disk.new)) }
 {
     match first_byte(disk, head)? {
         Some(byte) if head.len > 0 => redo_shut(disk, head, byte, frame),

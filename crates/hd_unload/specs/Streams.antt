@@ -123,3 +123,7 @@ IsWhole types segment = IsWholeOf types (code_of segment) segment
 -- the record of the segment at an address was written
 abbrev pub WritesRecord : Links → ℕ → Option (List ℕ) → Option (List ℕ) → Type 0
 WritesRecord m address old new = Appends old new (record_bytes (segment_at m address))
+
+-- the records of these rows were written, and they are so many
+abbrev pub WritesRecords : List Segment → Option (List ℕ) → Option (List ℕ) → ℕ → Type 0
+WritesRecords rows old new count = (count ≡ length rows) × Appends old new (records_bytes rows)

@@ -9,7 +9,7 @@ ghost use Rattle.hd_links.specs.Steps.{rows_of};
 ghost use Rattle.hd_image.specs.Records.{links_of, IsVolumeOf};
 ghost use Rattle.hd_image.specs.Holding.{HoldsPlaced, HoldsRows};
 ghost use Rattle.hd_forest.specs.Walks.{AreSegments, HasForest, IsAhead, tip, next_on};
-ghost use Rattle.hd_unload.specs.Streams.{record_bytes, records_bytes, end_bytes, stored_row, IsWhole, WritesRecord};
+ghost use Rattle.hd_unload.specs.Streams.{record_bytes, end_bytes, stored_row, IsWhole, WritesRecord, WritesRecords};
 ghost use Rattle.hd_unload.specs.Unloads.{IsUnloaded, stream_call};
 
 use crate::fault::StreamFault;
@@ -117,8 +117,7 @@ fn write_records<S: BlockStore, W: Write>(
 ) -> Result<u32, StreamFault>
     requires holds { IsTrue volume.old.is_sound → (rows : List Segment) × HoldsRows dbd.now volume.old rows }
     ensures read { IsRead volume.old (stream_call result) volume.new }
-    ensures records { IfOk result (λ n. IsTrue volume.old.is_sound → (f : Forest Placed) → HoldsPlaced dbd.now volume.old f
-        → (n ≡ length (rows_of f)) × Appends (W.contents out.old) (W.contents out.new) (records_bytes (rows_of f))) }
+    ensures records { IfOk result (λ n. IsTrue volume.old.is_sound → (f : Forest Placed) → HoldsPlaced dbd.now volume.old f → WritesRecords (rows_of f) (W.contents out.old) (W.contents out.new) n) }
 {
     let most = volume.length().min(u64::from(u32::MAX)) as u32;
     let mut path = Path::new();
