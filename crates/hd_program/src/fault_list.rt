@@ -4,7 +4,7 @@ ghost use Rattle.hd_dbd.specs.Facts.{stored_sizes};
 
 use crate::sights::segment_of;
 use crate::stop::Stop;
-use hd_check::all_faults;
+use hd_check::{AllFaults, all_faults};
 use hd_check_blocks::Fault;
 use hd_commands::Refusal;
 use hd_dbd::Dbd;
@@ -85,14 +85,20 @@ fn put_faults<S: BlockStore, W: Write>(
     Ok(())
 }
 
-/// Writes how many faults there are of each number.
-fn put_counts<W: Write>(faults: &[Fault], out: &mut W) -> io::Result<()> {
-    let mut counts = [0u64; NUMBERS];
+/// Counts faults by their numbers.
+fn count_numbers(counts: &mut [u64; NUMBERS], faults: &[Fault]) {
     for fault in faults {
         if let Some(count) = counts.get_mut(usize::from(fault.number())) {
             *count = count.saturating_add(1);
         }
     }
+}
+
+/// Writes how many faults there are of each number.
+fn put_counts<W: Write>(faults: &AllFaults, out: &mut W) -> io::Result<()> {
+    let mut counts = [0u64; NUMBERS];
+    count_numbers(&mut counts, &faults.first);
+    count_numbers(&mut counts, &faults.index);
     for number in 0..NUMBERS {
         let count = counts[number];
         if count > 0 {
@@ -133,8 +139,8 @@ fn put_count<W: Write>(dbd: &Dbd, code: u8, count: u64, out: &mut W) -> io::Resu
     writeln!(out)
 }
 
-/// Writes the faults of the first phase that finds any, in the fault table's order; how many there are of each number; and how many segments of each type they
-/// touch.
+/// Writes the faults of the first phase that finds any, in the fault table's order, and those of the index behind faults of pointers; how many there are of each
+/// number; and how many segments of each type they touch.
 pub fn list_faults<S: BlockStore, O: Write>(
     alloc: Global,
     volume: &mut Volume<S>,
@@ -148,7 +154,11 @@ pub fn list_faults<S: BlockStore, O: Write>(
         return Err(Stop::from(Refusal::Memory));
     };
     let mut touched = Vec::new(alloc);
-    put_faults(alloc, volume, dbd, &faults, &mut touched, &mut lines)?;
+    put_faults(alloc, volume, dbd, &faults.first, &mut touched, &mut lines)?;
+    if !faults.index.is_empty() {
+        lines.write_all(b"faults of the index:\n")?;
+        put_faults(alloc, volume, dbd, &faults.index, &mut touched, &mut lines)?;
+    }
     put_counts(&faults, &mut lines)?;
     put_touched(dbd, &mut touched, &mut lines)?;
     lines.flush()?;
