@@ -34,7 +34,7 @@ module _ (d : Database) (v : VolumeState) where
   none-behind-image [] h = absurd h
   none-behind-image (f ∷ fs) h = (λ late low. absurd (omega arith), λ other. refl)
 
-  -- behind those of pointers the faults of the index are
+  -- behind those of pointers stand the faults of the index
   pub index-behind : (fs behind : List Fault) → BeginsWith (λ f. (2 < phase_of f.line) × (phase_of f.line < 8)) fs → AreIndexFaults d v behind → AreFaultsBehind d v fs behind
   index-behind [] behind within h = absurd within
   index-behind (f ∷ fs) behind within h = (
@@ -45,10 +45,12 @@ module _ (d : Database) (v : VolumeState) where
 -- ---- in each state of the volume with one image
 
 module _ (u v : VolumeState) (e : IsOne u v) (d : Database) where
+  -- the faults of the one are those of the other
   pub faults-of-same : (fs : List Fault) → AreFaultsOf d u fs → AreFaultsOf d v fs
   faults-of-same [] h = (h.0, held-same d u v e.image e.size e.sizes h.0 h.1)
   faults-of-same (f ∷ fs) h = (first-faults-same u v e d (f ∷ fs) h.0, λ forest held. h.1 forest (held-same d v u (sym e.image) (sym e.size) (sym e.sizes) forest held))
 
+  -- and so are those behind them
   pub behind-same : (fs behind : List Fault) → AreFaultsBehind d u fs behind → AreFaultsBehind d v fs behind
   behind-same [] behind h = h
   behind-same (f ∷ fs) behind h = (λ late low. index-faults-same u v e d behind (h.0 late low), h.1)

@@ -68,7 +68,7 @@ first-of d v p f none h = record {
 
 module _ (d : Database) (v : VolumeState) where
   -- where none of the next phase stands either
-  pub next : (p : ℕ) → NoneBefore d v p → ((k : Line) (a o : ℕ) → phase_of k ≡ p → Stands d v k a o → ⊥) → NoneBefore d v (p + 1)
+  next : (p : ℕ) → NoneBefore d v p → ((k : Line) (a o : ℕ) → phase_of k ≡ p → Stands d v k a o → ⊥) → NoneBefore d v (p + 1)
   next p none here k a o l s = elim (cases_lt (phase_of k) p) [
     | inl low ↦ none k a o low s
     | inr high ↦ here k a o (omega arith) s

@@ -25,7 +25,7 @@ index_faults-requires g c = record {
 }
 
 pub returns-in-None-clause-read : goal.returns-in-None-clause-read
-returns-in-None-clause-read g c = read-ok c.alone.result (reads-join (Ok c.in_ok-index.index) c.in_ok-pointers.ensures.read c.in_ok-index.ensures.read)
+returns-in-None-clause-read g c = read-ok _ (reads-join (Ok c.in_ok-index.index) c.in_ok-pointers.ensures.read c.in_ok-index.ensures.read)
 
 pub returns-in-None-clause-first : goal.returns-in-None-clause-first
 returns-in-None-clause-first g c = λ sound.
@@ -51,7 +51,7 @@ returns-in-None-clause-index g c = λ sound.
     (subst (AreFaultsBehind d v c.in_ok-index.index.items) (sym c.alone.ensures.index) (none-behind-index d v c.in_ok-index.index.items all))
 
 pub returns-clause-read : goal.returns-clause-read
-returns-clause-read g c = read-ok (record { first = c.in-Some.first; index = c.in_ok-index.index }) (reads-join (Ok c.in_ok-index.index) c.in_ok-pointers.ensures.read c.in_ok-index.ensures.read)
+returns-clause-read g c = read-ok _ (reads-join (Ok c.in_ok-index.index) c.in_ok-pointers.ensures.read c.in_ok-index.ensures.read)
 
 pub returns-clause-first : goal.returns-clause-first
 returns-clause-first g c = λ sound.
