@@ -532,7 +532,7 @@ def try_lost_names(place):
     before = read("edu.volume")
     words = [place.player.program, "serve", "edu.dbd", "edu.psb", "edu.volume"]
     with subprocess.Popen(words, stdin=subprocess.PIPE, stdout=subprocess.PIPE, stderr=subprocess.PIPE) as server:
-        (length,) = struct.unpack(">I", server.stdout.read(4))
+        length = int.from_bytes(server.stdout.read(4), "big")
         server.stdout.read(length)
         os.rename("edu.volume", "stolen.volume")
         _, err = server.communicate(b"\0\0\0\x11\1\1GHU \1\0\x08BOOK    \0\0\0\7\1\1DLET\0", timeout=60)
