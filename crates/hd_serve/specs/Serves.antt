@@ -313,10 +313,6 @@ pub record IsServiceFor (d : Database) (pcbs : List View) (service : ServiceStat
   pub limits : service.limits ≡ limits_of d pcbs
   pub room : service.room ≡ longest_path d.types
 
--- what a service has read of the input and is no request yet, and the rest
-abbrev pub unread_by : ServiceState → Option (List ℕ) → Option (List ℕ)
-unread_by service rest = prepend_known service.unread rest
-
 -- ---- by what a caller has: the store, the input and what it has read of it, and the writer, before and behind
 
 -- a session was served from a desk to its end
