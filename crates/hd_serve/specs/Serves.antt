@@ -19,7 +19,7 @@ use Rattle.hd_session.specs.Opening.{SessionState, IsOpenFaultOf}
 use Rattle.hd_session.specs.Turns.{StaysWhole, AreMade}
 use Rattle.hd_session.specs.Requests.{Request, calls_in, AreDone, DoesAll, BreaksBehind, FailsIn}
 use Rattle.hd_deck.specs.Runs.{memory_in, Breaks}
-use Rattle.hd_deck.specs.Commits.{Stored, Leaves, DoesOut, BreaksOut, IsDone, IsDoneUntilFailure}
+use Rattle.hd_deck.specs.Commits.{Stored, stored_in, Leaves, DoesOut, BreaksOut, IsDone, IsDoneUntilFailure}
 use Rattle.hd_serve.specs.declared.call.Limits.{Limits}
 use Rattle.hd_serve.specs.declared.fault.FrameFault.{FrameFault}
 use Rattle.hd_serve.specs.declared.request.FramedRequest.TheVariants as asks
@@ -38,6 +38,7 @@ use Rattle.hd_serve.specs.declared.desk.Next.{Next}
 use Rattle.hd_serve.specs.declared.desk.Next.TheVariants as next
 use Rattle.hd_serve.specs.declared.service.ServeFault.{ServeFault}
 use Rattle.hd_serve.specs.declared.service.ServeFault.TheVariants as serve
+use Rattle.hd_serve.specs.declared.service.ServeEnd.{ServeEnd}
 use Rattle.hd_serve.specs.declared.desk.Desk.{Desk}
 use Rattle.hd_serve.specs.declared.answered_calls.Count.{Count}
 
@@ -312,6 +313,19 @@ pub record IsServiceFor (d : Database) (pcbs : List View) (service : ServiceStat
   pub limits : service.limits ≡ limits_of d pcbs
   pub room : service.room ≡ longest_path d.types
 
--- what a service has read of the input and is no request yet, and the rest
-abbrev pub unread_by : ServiceState → Option (List ℕ) → Option (List ℕ)
-unread_by service rest = prepend_known service.unread rest
+-- ---- by what a caller has: the store, the input and what it has read of it, and the writer, before and behind
+
+-- a session was served from a desk to its end
+abbrev pub ServesOutFrom : {S I W : Type 0} → (S → List ℕ) → (S → Committed) → (I → Option (List ℕ)) → (W → Option (List ℕ)) → SessionState → Desk → I → List ℕ → W → ServeEnd S → Desk → I → W → Type 0
+ServesOutFrom contents committed remaining written s desk input first out e desk2 input2 out2 =
+    IsServedOut desk.limits s e.ending (unread desk (remaining input)) (unread desk2 (remaining input2)) first (written out) (written out2) e.calls e.memory (stored_in contents committed e.store)
+
+-- a session over a store was served to its end, where these bytes of the input had been read and were no request yet, and those are then
+abbrev pub ServesOver : {S I W : Type 0} → (S → Bool) → (S → List ℕ) → (S → Committed) → (I → Option (List ℕ)) → (W → Option (List ℕ)) → Database → List View → S → List ℕ → I → List ℕ → W → ServeEnd S → List ℕ → I → W → Type 0
+ServesOver is_sound contents committed remaining written d pcbs store read input first out e read2 input2 out2 =
+    IsWholeService d pcbs (is_sound store) (stored_in contents committed store) e.ending (prepend_known read (remaining input)) (prepend_known read2 (remaining input2)) first (written out) (written out2) e.calls e.memory (stored_in contents committed e.store)
+
+-- a fault ended serving over a store
+abbrev pub ServesUntilFault : {S I W : Type 0} → (S → Bool) → (S → List ℕ) → (S → Committed) → (I → Option (List ℕ)) → (W → Option (List ℕ)) → Database → List View → S → List ℕ → I → List ℕ → W → S → W → ServeFault → Type 0
+ServesUntilFault is_sound contents committed remaining written d pcbs store read input first out store2 out2 fault =
+    IsServeFaultOf d pcbs (is_sound store) (stored_in contents committed store) (prepend_known read (remaining input)) first (written out) (written out2) (stored_in contents committed store2) fault

@@ -7,7 +7,7 @@ ghost use Rattle.hd_serve.specs.Frames.{frame_bytes};
 ghost use Rattle.hd_serve.specs.Answers.{done_bytes};
 ghost use Rattle.hd_serve.specs.Hello.{hello_bytes};
 ghost use Rattle.hd_deck.specs.Commits.{stored_in};
-ghost use Rattle.hd_serve.specs.Serves.{limits_of, IsServeFaultOf, IsBeforeCalls, NoService, fault_of, fault_refusal, IsServedOut, LeavesAt, IsWholeService, IsServiceFor, unread, unread_by};
+ghost use Rattle.hd_serve.specs.Serves.{limits_of, IsBeforeCalls, NoService, fault_of, fault_refusal, LeavesAt, IsServiceFor, unread, ServesOutFrom, ServesOver, ServesUntilFault};
 
 use crate::answer::DONE;
 use crate::desk::{Desk, Ending, Stop, serve_all};
@@ -116,7 +116,7 @@ fn serve_and_close<S: CommitStore, I: Read, W: Write>(
     requires pcbs { desk.old.limits.pcbs ≤ length session.pcbs }
     requires room { longest_path session.database.types ≤ desk.old.io.room }
     requires whole { session.broken ≡ false }
-    ensures serves { IfOk result (λ e. IsServedOut desk.old.limits session.entry e.ending (unread desk.old (I.remaining input.old)) (unread desk.new (I.remaining input.new)) first.now (W.contents out.old) (W.contents out.new) e.calls e.memory (stored_in S.contents S.committed e.store)) }
+    ensures serves { IfOk result (λ e. ServesOutFrom S.contents S.committed I.remaining W.contents session.entry desk.old input.old first.now out.old e desk.new input.new out.new) }
     ensures leaves { IfErr result (λ e. LeavesAt desk.old.limits session.entry (unread desk.old (I.remaining input.old)) first.now (W.contents out.old) (W.contents out.new) e.1 (stored_in S.contents S.committed e.0)) }
     ensures failures { IfOk result (λ e. S.failures e.store ≡ session.entry.volume.failures) }
     ensures counts { IfErr result (λ e. CountsFor (fault_refusal (fault_of e.1)) session.entry.volume.failures (S.failures e.0)) }
@@ -158,8 +158,8 @@ fn serve_session<S: CommitStore, I: Read, W: Write>(
     requires matches { psb.now.made_for ≡ type_names dbd.now.types }
     requires limits { desk.old.limits ≡ limits_of dbd.now psb.now.pcbs }
     requires room { desk.old.io.room ≡ longest_path dbd.now.types }
-    ensures served { IfOk result (λ e. IsWholeService dbd.now psb.now.pcbs (S.is_sound store) (stored_in S.contents S.committed store) e.ending (unread desk.old (I.remaining input.old)) (unread desk.new (I.remaining input.new)) first.now (W.contents out.old) (W.contents out.new) e.calls e.memory (stored_in S.contents S.committed e.store)) }
-    ensures fault { IfErr result (λ e. IsServeFaultOf dbd.now psb.now.pcbs (S.is_sound store) (stored_in S.contents S.committed store) (unread desk.old (I.remaining input.old)) first.now (W.contents out.old) (W.contents out.new) (stored_in S.contents S.committed e.0) e.1) }
+    ensures served { IfOk result (λ e. ServesOver S.is_sound S.contents S.committed I.remaining W.contents dbd.now psb.now.pcbs store desk.old.buffer input.old first.now out.old e desk.new.buffer input.new out.new) }
+    ensures fault { IfErr result (λ e. ServesUntilFault S.is_sound S.contents S.committed I.remaining W.contents dbd.now psb.now.pcbs store desk.old.buffer input.old first.now out.old e.0 out.new e.1) }
     ensures early { IfErr result (λ e. IsBeforeCalls e.1 → (out.new ≡ out.old) × (input.new ≡ input.old) × (desk.new ≡ desk.old)) }
     ensures failures { IfOk result (λ e. S.failures e.store ≡ S.failures store) }
     ensures counts { IfErr result (λ e. CountsFor (fault_refusal e.1) (S.failures store) (S.failures e.0)) }
@@ -227,8 +227,8 @@ impl Service {
         requires size { S.size store ≡ dbd.now.block_size }
         requires matches { psb.now.made_for ≡ type_names dbd.now.types }
         requires made_for { IsServiceFor dbd.now psb.now.pcbs self.old }
-        ensures served { IfOk result (λ e. IsWholeService dbd.now psb.now.pcbs (S.is_sound store) (stored_in S.contents S.committed store) e.ending (unread_by self.old (I.remaining input.old)) (unread_by self.new (I.remaining input.new)) self.old.first (W.contents out.old) (W.contents out.new) e.calls e.memory (stored_in S.contents S.committed e.store)) }
-        ensures fault { IfErr result (λ e. IsServeFaultOf dbd.now psb.now.pcbs (S.is_sound store) (stored_in S.contents S.committed store) (unread_by self.old (I.remaining input.old)) self.old.first (W.contents out.old) (W.contents out.new) (stored_in S.contents S.committed e.0) e.1) }
+        ensures served { IfOk result (λ e. ServesOver S.is_sound S.contents S.committed I.remaining W.contents dbd.now psb.now.pcbs store self.old.unread input.old self.old.first out.old e self.new.unread input.new out.new) }
+        ensures fault { IfErr result (λ e. ServesUntilFault S.is_sound S.contents S.committed I.remaining W.contents dbd.now psb.now.pcbs store self.old.unread input.old self.old.first out.old e.0 out.new e.1) }
         ensures early { IfErr result (λ e. IsBeforeCalls e.1 → (out.new ≡ out.old) × (input.new ≡ input.old) × (self.new ≡ self.old)) }
         ensures next { IfOk result (λ e. e.ending ≡ Ending.RollBack → self.new.first ≡ frame_bytes done_bytes) }
         ensures made_for { IsServiceFor dbd.now psb.now.pcbs self.new }
