@@ -11,7 +11,7 @@ use Rattle.hd_index_blocks.specs.IndexSets.{index_entries}
 use Rattle.hd_links.specs.Pointers.{AreLinked}
 use Rattle.hd_image.specs.Records.{links_of, IsVolumeOf}
 use Rattle.hd_image.specs.IndexFaults.{names_a_root}
-use Rattle.hd_image.specs.Right.{BlocksAreRight, IndexIsFormed, EntriesAreRight}
+use Rattle.hd_image.specs.Right.{BlocksAreRight, IndexIsFormed, IndexIsInOrder, EntriesAreRight}
 use Rattle.hd_image.specs.Standing.{IsLeastFault, Stands, phase_of}
 use Rattle.hd_image.specs.declared.line.Line.{Line}
 use Rattle.hd_check_blocks.specs.declared.fault.Fault.{Fault}
@@ -45,6 +45,10 @@ pub record IsFoundRight (d : Database) (v : VolumeState) (places : List Place) :
   pub pointers : AreLinked d.types (links_of d.types v)
   pub index : IndexIsFormed (root_key_length d.types) v
   pub entries : EntriesAreRight d v
+
+-- the index is formed, and in order
+abbrev pub HasOrderedIndex : ℕ → VolumeState → Type 0
+HasOrderedIndex key_length v = IndexIsFormed key_length v × IndexIsInOrder key_length v
 
 -- the fact holds of a volume of an index set whose blocks are right, where these were found of a size of blocks: the first block with a wrong next
 -- one, and the first with an entry out of order and what that names

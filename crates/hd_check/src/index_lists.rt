@@ -7,12 +7,12 @@ ghost use Rattle.hd_volume.specs.Entries.{entry_blocks, entries};
 ghost use Rattle.hd_volume.specs.Indexes.{root_key_length, keys_ascend};
 ghost use Rattle.hd_index_blocks.specs.Faultless.{AreFormsRight, AreNamedOnce, AreAllReached};
 ghost use Rattle.hd_image.specs.Records.{IsVolumeOf};
-ghost use Rattle.hd_image.specs.Right.{ChainIsFormed, SetIsFormed, LevelsAreInOrder, IndexIsFormed, IndexIsInOrder, EntriesAreRight};
+ghost use Rattle.hd_image.specs.Right.{ChainIsFormed, SetIsFormed, LevelsAreInOrder, IndexIsFormed, EntriesAreRight};
 ghost use Rattle.hd_check_blocks.specs.Finding.{WhereNone, WhereSome};
 ghost use Rattle.hd_check_index.specs.IndexPhases.{IsSequence};
 ghost use Rattle.hd_check_index.specs.Tables.{AreIndexBlocks};
 ghost use Rattle.hd_check_index.specs.Rows.{AreRows};
-ghost use Rattle.hd_check.specs.Joining.{HasRightBlocks, NamesAreRight};
+ghost use Rattle.hd_check.specs.Joining.{HasRightBlocks, NamesAreRight, HasOrderedIndex};
 ghost use Rattle.hd_check.specs.Lists.{NoneOfIndexBefore, AreIndexFaults};
 
 use crate::levels::note_sequence;
@@ -79,7 +79,7 @@ fn chain_faults<S: BlockStore>(
     requires of { IsTrue volume.old.is_sound → IsVolumeOf dbd.now volume.old }
     requires version { IsTrue volume.old.is_sound → (header_of volume.old.image).version ≡ 1 }
     ensures read { IsRead volume.old result volume.new }
-    ensures none { WhereNone volume.old result (IndexIsFormed (root_key_length dbd.now.types) volume.old × IndexIsInOrder (root_key_length dbd.now.types) volume.old) }
+    ensures none { WhereNone volume.old result (HasOrderedIndex (root_key_length dbd.now.types) volume.old) }
     ensures sequence { WhereNone volume.old result (IsSequence (root_key_length dbd.now.types) volume.old chain.new.items) }
     ensures some { WhereSome volume.old result (λ l. AreIndexFaults dbd.now volume.old l.items × (l.items ≢ [])) }
     ensures refusal { OnlyDeviceOrMemory result }
@@ -237,7 +237,7 @@ fn levels_faults<S: BlockStore>(
     requires of { IsTrue volume.old.is_sound → IsVolumeOf dbd.now volume.old }
     requires later { IsTrue volume.old.is_sound → (header_of volume.old.image).version ≢ 1 }
     ensures read { IsRead volume.old result volume.new }
-    ensures none { WhereNone volume.old result (IndexIsFormed (root_key_length dbd.now.types) volume.old × IndexIsInOrder (root_key_length dbd.now.types) volume.old) }
+    ensures none { WhereNone volume.old result (HasOrderedIndex (root_key_length dbd.now.types) volume.old) }
     ensures sequence { WhereNone volume.old result (IsSequence (root_key_length dbd.now.types) volume.old sequence.new.items) }
     ensures some { WhereSome volume.old result (λ l. AreIndexFaults dbd.now volume.old l.items × (l.items ≢ [])) }
     ensures refusal { OnlyDeviceOrMemory result }
@@ -266,7 +266,7 @@ fn index_blocks_faults<S: BlockStore>(
     requires empty { sequence.old.items ≡ [] }
     requires of { IsTrue volume.old.is_sound → IsVolumeOf dbd.now volume.old }
     ensures read { IsRead volume.old result volume.new }
-    ensures none { WhereNone volume.old result (IndexIsFormed (root_key_length dbd.now.types) volume.old × IndexIsInOrder (root_key_length dbd.now.types) volume.old) }
+    ensures none { WhereNone volume.old result (HasOrderedIndex (root_key_length dbd.now.types) volume.old) }
     ensures sequence { WhereNone volume.old result (IsSequence (root_key_length dbd.now.types) volume.old sequence.new.items) }
     ensures some { WhereSome volume.old result (λ l. AreIndexFaults dbd.now volume.old l.items × (l.items ≢ [])) }
     ensures refusal { OnlyDeviceOrMemory result }

@@ -8,13 +8,13 @@ ghost use Rattle.hd_volume.specs.Calls.{IsRead};
 ghost use Rattle.hd_volume.specs.Indexes.{root_key_length};
 ghost use Rattle.hd_index_blocks.specs.Faultless.{AreFormsRight, AreNamedOnce, AreAllReached};
 ghost use Rattle.hd_image.specs.Records.{IsVolumeOf};
-ghost use Rattle.hd_image.specs.Right.{SetIsFormed, LevelsAreInOrder, IndexIsFormed, IndexIsInOrder};
+ghost use Rattle.hd_image.specs.Right.{SetIsFormed, LevelsAreInOrder};
 ghost use Rattle.hd_check_blocks.specs.Phases.{IsLeastOf};
 ghost use Rattle.hd_check_blocks.specs.Finding.{WhereNone, WhereSome};
 ghost use Rattle.hd_check_index.specs.IndexPhases.{IsSequence};
 ghost use Rattle.hd_check_index.specs.Tables.{AreIndexBlocks};
 ghost use Rattle.hd_check_index.specs.Rows.{AreRows};
-ghost use Rattle.hd_check.specs.Joining.{NoneBefore, IsFirstFault, OfOrdered};
+ghost use Rattle.hd_check.specs.Joining.{NoneBefore, IsFirstFault, OfOrdered, HasOrderedIndex};
 
 use hd_check_blocks::Fault;
 use hd_check_index::{
@@ -265,7 +265,7 @@ pub fn levels_fault<S: BlockStore>(
     requires later { IsTrue volume.old.is_sound → (header_of volume.old.image).version ≢ 1 }
     requires before { IsTrue volume.old.is_sound → NoneBefore dbd.now volume.old 8 }
     ensures read { IsRead volume.old result volume.new }
-    ensures none { WhereNone volume.old result (IndexIsFormed (root_key_length dbd.now.types) volume.old × IndexIsInOrder (root_key_length dbd.now.types) volume.old) }
+    ensures none { WhereNone volume.old result (HasOrderedIndex (root_key_length dbd.now.types) volume.old) }
     ensures sequence { WhereNone volume.old result (IsSequence (root_key_length dbd.now.types) volume.old sequence.new.items) }
     ensures some { WhereSome volume.old result (λ f. IsFirstFault dbd.now volume.old f) }
     ensures refusal { OnlyDeviceOrMemory result }

@@ -8,11 +8,11 @@ ghost use Rattle.hd_volume.specs.Entries.{entry_blocks, entries};
 ghost use Rattle.hd_volume.specs.Indexes.{root_key_length, keys_ascend};
 ghost use Rattle.hd_links.specs.Pointers.{AreLinked};
 ghost use Rattle.hd_image.specs.Records.{links_of, IsVolumeOf};
-ghost use Rattle.hd_image.specs.Right.{ChainIsFormed, IndexIsFormed, IndexIsInOrder, EntriesAreRight};
+ghost use Rattle.hd_image.specs.Right.{ChainIsFormed, IndexIsFormed, EntriesAreRight};
 ghost use Rattle.hd_check_pointers.specs.Tables.{AreForwards, ArePredecessors};
 ghost use Rattle.hd_check_pointers.specs.Matched.{IsMatched};
 ghost use Rattle.hd_check_index.specs.IndexPhases.{IsSequence};
-ghost use Rattle.hd_check.specs.Joining.{NoneBefore, IsFirstFault, HasRightBlocks, NamesAreRight, IsFoundRight};
+ghost use Rattle.hd_check.specs.Joining.{NoneBefore, IsFirstFault, HasRightBlocks, NamesAreRight, IsFoundRight, HasOrderedIndex};
 ghost use Rattle.hd_check_blocks.specs.Finding.{WhereNone, WhereSome};
 
 use crate::levels::levels_fault;
@@ -165,7 +165,7 @@ fn chain_fault<S: BlockStore>(
     requires version { IsTrue volume.old.is_sound → (header_of volume.old.image).version ≡ 1 }
     requires before { IsTrue volume.old.is_sound → NoneBefore dbd.now volume.old 8 }
     ensures read { IsRead volume.old result volume.new }
-    ensures none { WhereNone volume.old result (IndexIsFormed (root_key_length dbd.now.types) volume.old × IndexIsInOrder (root_key_length dbd.now.types) volume.old) }
+    ensures none { WhereNone volume.old result (HasOrderedIndex (root_key_length dbd.now.types) volume.old) }
     ensures sequence { WhereNone volume.old result (IsSequence (root_key_length dbd.now.types) volume.old chain.new.items) }
     ensures some { WhereSome volume.old result (λ f. IsFirstFault dbd.now volume.old f) }
     ensures refusal { OnlyDeviceOrMemory result }
@@ -200,7 +200,7 @@ fn index_blocks_fault<S: BlockStore>(
     requires of { IsTrue volume.old.is_sound → IsVolumeOf dbd.now volume.old }
     requires before { IsTrue volume.old.is_sound → NoneBefore dbd.now volume.old 8 }
     ensures read { IsRead volume.old result volume.new }
-    ensures none { WhereNone volume.old result (IndexIsFormed (root_key_length dbd.now.types) volume.old × IndexIsInOrder (root_key_length dbd.now.types) volume.old) }
+    ensures none { WhereNone volume.old result (HasOrderedIndex (root_key_length dbd.now.types) volume.old) }
     ensures sequence { WhereNone volume.old result (IsSequence (root_key_length dbd.now.types) volume.old sequence.new.items) }
     ensures some { WhereSome volume.old result (λ f. IsFirstFault dbd.now volume.old f) }
     ensures refusal { OnlyDeviceOrMemory result }
