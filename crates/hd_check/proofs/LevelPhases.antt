@@ -5,7 +5,7 @@ use Rattle.hd_volume.specs.Headers.{header_of}
 use Rattle.hd_volume.specs.Volumes.{VolumeState}
 use Rattle.hd_volume.specs.Indexes.{root_key_length, IsAmong}
 use Rattle.hd_index_blocks.specs.LevelFaults as level
-use Rattle.hd_index_blocks.specs.LevelFaults.{row_below, StandsBetween}
+use Rattle.hd_index_blocks.specs.LevelFaults.{StandsBetween}
 use Rattle.hd_index_blocks.specs.Faultless.{AreFormsRight, AreNamedOnce, AreAllReached}
 use Rattle.hd_index_blocks.specs.IndexSets.{level_in, top_level}
 use Rattle.hd_index_blocks.proofs.Volumes.{level-kind}
@@ -46,9 +46,6 @@ module _ (d : Database) (v : VolumeState) (later : (header_of v.image).version �
       next-of-index d v 11 none (λ k a o is s. elim (set-11 d v k a o later is s) [ inl t ↦ judged.0.0 order.next a o t.0 | inr t ↦ judged.1.0 order.keys a o t.0 ])
 
   -- ---- the least of a phase
-
-  pub top-least : (top : ℕ) → level.IsWrongTop v 0 top → IsLeastOf d v 8 (record { line = WrongTop; address = 0; other = top })
-  top-least top w = least-late d v 8 (record { line = WrongTop; address = 0; other = top }) (omega arith) (λ e. omega arith) refl (inr (later, w)) (λ k a o is s. omega arith)
 
   pub form-least : (n : ℕ) → level.StandsNowhere (level.IsWrongTop v) → level.IsWrongForm (root_key_length d.types) v (n * v.size) 0 → ((a o : ℕ) → level.IsWrongForm (root_key_length d.types) v a o → n * v.size ≤ a)
       → IsLeastOf d v 8 (record { line = WrongForm; address = n * v.size; other = 0 })

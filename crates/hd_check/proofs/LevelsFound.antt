@@ -18,13 +18,13 @@ use Rattle.hd_index_blocks.proofs.RowFaults.{levels-judged}
 use Rattle.hd_image.specs.Records.{IsVolumeOf}
 use Rattle.hd_image.specs.Right.{LevelsAreInOrder}
 use Rattle.hd_image.specs.declared.line.Line.{Line}
-use Rattle.hd_image.specs.declared.line.Line.TheVariants.{WrongTop, WrongForm, NamedTwice, UnreachedBlock, WrongNext, EntryOutOfOrder}
+use Rattle.hd_image.specs.declared.line.Line.TheVariants.{WrongForm, NamedTwice, UnreachedBlock, WrongNext, EntryOutOfOrder}
 use Rattle.hd_check_blocks.specs.declared.fault.Fault.{Fault}
 use Rattle.hd_check_blocks.specs.Phases.{IsLeastOf}
 use Rattle.hd_check_index.specs.Judging.{IsFirst, IsFoundAt}
 use Rattle.hd_check.specs.Joining.{NoneBefore, IsFirstFault}
 use Rattle.hd_check.proofs.EarlierFaults.{first-of}
-use Rattle.hd_check.proofs.LevelPhases.{top-least, form-least, twice-least, unreached-least, next-least, order-least, form-fits, twice-fits, unreached-fits, next-fits, order-fits}
+use Rattle.hd_check.proofs.LevelPhases.{form-least, twice-least, unreached-least, next-least, order-least, form-fits, twice-fits, unreached-fits, next-fits, order-fits}
 
 -- ---- an answer
 
@@ -69,9 +69,6 @@ module _ (d : Database) (v : VolumeState) where
 module _ (d : Database) (v : VolumeState) (of : IsVolumeOf d v) (later : (header_of v.image).version ≢ 1) where
   abbrev k : ℕ
   k = root_key_length d.types
-
-  pub top-first : (top : ℕ) → NoneBefore d v 8 → level.IsWrongTop v 0 top → IsFirstFault d v (record { line = WrongTop; address = 0; other = top })
-  top-first top before wrong = first-of d v 8 (record { line = WrongTop; address = 0; other = top }) before (top-least d v later top wrong)
 
   pub forms-found : (size : ℕ) (found : Option ℕ) (result : Option Fault) → NoneBefore d v 8 → StandsNowhere (level.IsWrongTop v) → size ≡ v.size → IsFoundAt v (level.IsWrongForm k v) found
       → IsFaultAt WrongForm found size result → IfNone result (AreFormsRight k v) × IfSome result (λ f. IsFirstFault d v f)

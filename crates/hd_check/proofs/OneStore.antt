@@ -1,18 +1,15 @@
 -- What a check finds in an image it finds in each state of the volume with that image.
-use Rattle.std.proofs.Common.{◌≡◌, inl, inr, ℕ, List, [], ◌∷◌, true, sym, subst}
-use Rattle.std.specs.List.{list_all}
+use Rattle.std.proofs.Common.{◌≡◌, inl, inr, ℕ, List, [], ◌∷◌, sym, subst}
 use Rattle.hd_bytes.specs.Numbers.{number_at}
 use Rattle.hd_dbd.specs.Hierarchy.{Database}
 use Rattle.hd_volume.specs.Headers.{HasHeader, header_of}
 use Rattle.hd_volume.specs.Volumes.{VolumeState, block_at, IsKind}
 use Rattle.hd_volume.specs.Entries.{entry_blocks}
 use Rattle.hd_index_blocks.specs.LevelFaults as level
-use Rattle.hd_index_blocks.specs.Faultless.{AreFormsRight, AreNamedOnce, AreAllReached}
-use Rattle.hd_index_blocks.specs.IndexSets.{index_entries}
+use Rattle.hd_index_blocks.specs.Faultless.{AreFormsRight, AreAllReached}
 use Rattle.hd_volume.specs.Indexes.{IsChain, root_key_length}
-use Rattle.hd_image.specs.Records.{links_of}
 use Rattle.hd_image.proofs.OneImage.{links-same, volume-same}
-use Rattle.hd_image.specs.IndexFaults.{NamesBlock, names_a_root, IsWrongTop, IsWrongForm, IsNamedTwice, IsUnreachedBlock}
+use Rattle.hd_image.specs.IndexFaults.{NamesBlock, IsWrongTop, IsWrongForm, IsNamedTwice, IsUnreachedBlock}
 use Rattle.hd_image.specs.Right.{IsKnown, LevelsAreInOrder, ChainIsFormed, SetIsFormed, IndexIsFormed, IndexIsInOrder, EntriesAreRight}
 use Rattle.hd_image.specs.Standing.{Stands}
 use Rattle.hd_image.specs.declared.line.Line.{Line}
@@ -20,7 +17,7 @@ use Rattle.hd_image.specs.declared.line.Line.TheVariants.{NoVolume, NoVersion, A
 use Rattle.hd_check_blocks.specs.declared.fault.Fault.{Fault}
 use Rattle.hd_check_index.specs.declared.noted_blocks.ChainedBlock.{ChainedBlock}
 use Rattle.hd_check_blocks.specs.Phases.{AreBlocksRight, IsLeastOf}
-use Rattle.hd_check_index.specs.IndexPhases.{AreIndexBlocks, AreNamed, IsSequence}
+use Rattle.hd_check_index.specs.IndexPhases.{AreIndexBlocks, IsSequence}
 use Rattle.hd_check_blocks.specs.declared.places.Place.{Place}
 use Rattle.hd_check_index.specs.declared.table.NotedBlock as noted
 use Rattle.hd_check_index.specs.declared.rows.Standing.{Standing}
@@ -182,9 +179,6 @@ module _ (u v : VolumeState) (e : IsOne u v) where
   pub level-forms-same : (k : ℕ) → AreFormsRight k u → AreFormsRight k v
   level-forms-same k h = forms-same k u v e.size e.image h
 
-  pub once-same : (k : ℕ) → AreNamedOnce k u → AreNamedOnce k v
-  once-same k h = subst (AreNamedOnce k) like-is (λ n g i m j kind one two. h n g i m j (kind-back 2 n kind) one two)
-
   pub reached-same : (k : ℕ) → AreAllReached k u → AreAllReached k v
   reached-same k h = subst (AreAllReached k) like-is (λ n kind. h n (kind-back 2 n kind))
 
@@ -219,15 +213,6 @@ module _ (u v : VolumeState) (e : IsOne u v) where
     there = λ b i. (let t = h.there b i in (kind-like 2 b.number t.0, t.1));
     all = λ n kind. h.all n (kind-back 2 n kind);
   })
-
-  -- and what its entries name
-  pub named-same : (k : ℕ) (named : List ℕ) → AreNamed k u named → AreNamed k v named
-  named-same k named h = subst (λ (w : VolumeState). AreNamed k w named) like-is (record { there = h.there; all = h.all })
-
-  -- the entries that name roots
-  pub names-same : (d : Database) → list_all (λ x. names_a_root d (links_of d.types u) x) (index_entries (root_key_length d.types) u) ≡ true
-      → list_all (λ x. names_a_root d (links_of d.types v) x) (index_entries (root_key_length d.types) v) ≡ true
-  names-same d h = subst (λ (w : VolumeState). list_all (λ x. names_a_root d (links_of d.types w) x) (index_entries (root_key_length d.types) w) ≡ true) like-is h
 
   -- and the blocks that bear entries
   pub bearers-same : entry_blocks v ≡ entry_blocks u
