@@ -1,5 +1,5 @@
 -- What taking and giving room do to the extents of a block.
-use Rattle.std.specs.Prelude.{◌≢◌, ◌⊎◌, ℕ, ◌+◌, ◌-◌, nat_le, ◌==◌, cond, List, [], ◌∷◌, Option, Some, None}
+use Rattle.std.specs.Prelude.{◌≢◌, ◌⊎◌, ℕ, ◌+◌, ◌-◌, nat_le, ◌==◌, cond, List, [], ◌∷◌, Option, Some, None, OnSome}
 use Rattle.hd_bytes.specs.Ranges.{AgreeOn}
 use Rattle.hd_block.specs.Extents.{Extent, free, used, taken, IsDivided, UsedAt, TakenAt}
 use Rattle.hd_dbd.specs.declared.facts.SegmentSize.{SegmentSize}
@@ -60,6 +60,14 @@ after_give place p (taken n ∷ xs) = cond (p == place) (hole_before n xs) (take
 -- there is a segment at this place, or room that was handed out, of n bytes
 abbrev pub IsHeldAt : List Extent → ℕ → ℕ → Type 0
 IsHeldAt xs place n = UsedAt 8 xs place n ⊎ TakenAt 8 xs place n
+
+-- Where room of a size was taken from a block, if it was, the block is divided as after that.
+abbrev pub IsTakenFrom : List SegmentSize → List ℕ → ℕ → Option ℕ → List ℕ → Type 0
+IsTakenFrom sizes old size place new = (xs : List Extent) → IsDivided sizes old xs → OnSome place (IsDivided sizes new (after_take size xs))
+
+-- Every segment keeps its bytes.
+abbrev pub KeepsSegments : List SegmentSize → List ℕ → List ℕ → Type 0
+KeepsSegments sizes old new = (xs : List Extent) (q n : ℕ) → IsDivided sizes old xs → UsedAt 8 xs q n → AgreeOn q n old new
 
 -- Where a segment or room of a size stood at an offset, the block is divided as after it was given back.
 abbrev pub IsGivenBack : List SegmentSize → List ℕ → ℕ → ℕ → List ℕ → Type 0

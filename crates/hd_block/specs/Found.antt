@@ -1,7 +1,7 @@
 -- What a walk along the free elements of a block finds.
-use Rattle.std.specs.Prelude.{◌≡◌, ◌≢◌, ◌⊎◌, ℕ, ◌+◌, ◌%◌, ◌≤◌, max, List, [], ◌∷◌, ◌++◌}
+use Rattle.std.specs.Prelude.{◌≡◌, ◌≢◌, ◌⊎◌, ℕ, ◌+◌, ◌%◌, ◌≤◌, max, List, [], ◌∷◌, ◌++◌, Option, None, MatchOption}
 use Rattle.hd_bytes.specs.Numbers.{number_at}
-use Rattle.hd_block.specs.Extents.{Extent, free, used, taken, IsHole, IsSegment, Fill}
+use Rattle.hd_block.specs.Extents.{Extent, free, used, taken, IsHole, IsSegment, Fill, IsDivided}
 use Rattle.hd_block.specs.Changes.{hole_at, after_take, hole_before}
 use Rattle.hd_block.specs.Parts.{largest_free, free_bytes}
 use Rattle.hd_block.specs.declared.holes.Hole.{Hole}
@@ -91,3 +91,11 @@ pub record IsBehind (sizes : List SegmentSize) (bytes : List ℕ) (place : ℕ) 
   pub fill : Fill sizes bytes (place + behind.more) behind.next rest
   pub whole : behind.more % 8 ≡ 0
   pub apart : behind.next ≢ place + behind.more
+
+-- what a search for a hole of this size came to, if the bytes are those of a block: the first one, or there is none
+abbrev pub IsSearched : List ℕ → ℕ → Option Hole → Type 0
+IsSearched bytes size found = (sizes : List SegmentSize) (xs : List Extent) → IsDivided sizes bytes xs → MatchOption found (hole_at size 8 xs ≡ None) (IsFound sizes bytes size xs)
+
+-- the link leads past what stands at this offset of a block
+abbrev pub LeadsPast : List ℕ → ℕ → Link → Type 0
+LeadsPast bytes offset link = (sizes : List SegmentSize) (xs : List Extent) (n : ℕ) → IsDivided sizes bytes xs → At 8 xs offset n → IsLinked sizes bytes xs offset n link

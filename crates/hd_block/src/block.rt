@@ -1,7 +1,7 @@
-ghost use Rattle.std.specs.Prelude.{◌≡◌, ◌+◌, ◌%◌, ◌≤◌, ◌<◌, ℕ, List, length, slice_index, OnSome, IfSome, IfNone};
+ghost use Rattle.std.specs.Prelude.{◌≡◌, ◌+◌, ◌%◌, ◌≤◌, ◌<◌, List, length, IfSome, IfNone};
 ghost use Rattle.hd_bytes.specs.Ranges.{AgreeOn};
-ghost use Rattle.hd_block.specs.Extents.{Extent, IsDivided, AreWhole, UsedAt};
-ghost use Rattle.hd_block.specs.Changes.{hole_at, after_take, IsGivenBack, KeepsOthers};
+ghost use Rattle.hd_block.specs.Extents.{Extent, IsDivided, AreWhole};
+ghost use Rattle.hd_block.specs.Changes.{hole_at, IsTakenFrom, KeepsSegments, IsGivenBack, KeepsOthers};
 ghost use Rattle.hd_block.specs.Parts.{parts_of};
 ghost use Rattle.hd_block.specs.Walk.{parts_in};
 
@@ -38,11 +38,11 @@ impl<'a> Block<'a> {
         ensures same { IsSameBlock self.old self.new }
         ensures len { length (bytes_of self.new) ≡ length (bytes_of self.old) }
         ensures found { (xs : List Extent) → IsDivided (sizes_of self.old) (bytes_of self.old) xs → result ≡ hole_at size 8 xs }
-        ensures after { (xs : List Extent) → IsDivided (sizes_of self.old) (bytes_of self.old) xs → OnSome result (IsDivided (sizes_of self.old) (bytes_of self.new) (after_take size xs)) }
+        ensures after { IsTakenFrom (sizes_of self.old) (bytes_of self.old) size result (bytes_of self.new) }
         ensures fits { IfSome result (λ p. (8 ≤ p) × (p + size ≤ length (bytes_of self.old))) }
         ensures none { IfNone result (bytes_of self.new ≡ bytes_of self.old) }
         ensures head { AgreeOn 2 6 (bytes_of self.old) (bytes_of self.new) }
-        ensures others { (xs : List Extent) (q n : ℕ) → IsDivided (sizes_of self.old) (bytes_of self.old) xs → UsedAt 8 xs q n → AgreeOn q n (bytes_of self.old) (bytes_of self.new) }
+        ensures others { KeepsSegments (sizes_of self.old) (bytes_of self.old) (bytes_of self.new) }
     {
         take_hole(self.bytes, size)
     }

@@ -1,8 +1,8 @@
-ghost use Rattle.std.specs.Prelude.{◌≡◌, ◌⊎◌, ◌+◌, ◌%◌, ◌≤◌, ◌<◌, ℕ, List, length};
+ghost use Rattle.std.specs.Prelude.{◌≡◌, ◌⊎◌, ◌+◌, ◌%◌, ◌≤◌, ◌<◌, List, length};
 ghost use Rattle.hd_bytes.specs.Ranges.{AgreeOn};
-ghost use Rattle.hd_block.specs.Extents.{Extent, Fill, IsDivided};
+ghost use Rattle.hd_block.specs.Extents.{Extent, Fill};
 ghost use Rattle.hd_block.specs.Changes.{IsGivenBack, KeepsOthers};
-ghost use Rattle.hd_block.specs.Found.{At, IsLinked, IsBehind};
+ghost use Rattle.hd_block.specs.Found.{LeadsPast, IsBehind};
 ghost use Rattle.hd_dbd.specs.declared.facts.SegmentSize.{SegmentSize};
 
 use crate::element::write_element;
@@ -27,7 +27,7 @@ fn find_link(bytes: &[u8], offset: u16) -> Link
     requires { (8 ≤ offset) × (offset + 8 ≤ length bytes.now) }
     ensures place { result.link < offset }
     ensures head { (8 ≤ result.link) ⊎ (result.link ≡ 0) }
-    ensures found { (sizes : List SegmentSize) (xs : List Extent) (n : ℕ) → IsDivided sizes bytes.now xs → At 8 xs offset n → IsLinked sizes bytes.now xs offset n result }
+    ensures found { LeadsPast bytes.now offset result }
 {
     let mut link = 0;
     let mut end = 8;

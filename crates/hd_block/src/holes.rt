@@ -1,9 +1,9 @@
-ghost use Rattle.std.specs.Prelude.{◌≡◌, ◌⊎◌, ◌+◌, ◌%◌, ◌≤◌, ◌<◌, ℕ, List, length, None, MatchOption, OnSome, IfSome, IfNone};
+ghost use Rattle.std.specs.Prelude.{◌≡◌, ◌⊎◌, ◌+◌, ◌%◌, ◌≤◌, ◌<◌, List, length, None, IfSome, IfNone};
 ghost use Rattle.hd_bytes.specs.Ranges.{AgreeOn};
-ghost use Rattle.hd_block.specs.Extents.{Extent, IsDivided, UsedAt};
-ghost use Rattle.hd_block.specs.Changes.{hole_at, after_take};
+ghost use Rattle.hd_block.specs.Extents.{Extent, IsDivided};
+ghost use Rattle.hd_block.specs.Changes.{hole_at, IsTakenFrom, KeepsSegments};
 ghost use Rattle.hd_block.specs.Parts.{largest_free, free_bytes};
-ghost use Rattle.hd_block.specs.Found.{IsFound};
+ghost use Rattle.hd_block.specs.Found.{IsSearched};
 ghost use Rattle.hd_block.specs.Walk.{HolesAreWithin, parts_in};
 ghost use Rattle.hd_dbd.specs.declared.facts.SegmentSize.{SegmentSize};
 
@@ -24,7 +24,7 @@ fn find_hole(bytes: &[u8], size: u16) -> Option<Hole>
     requires { 8 ≤ length bytes.now }
     ensures place { IfSome result (λ h. (h.link + 2 ≤ length bytes.now) × (h.place + 8 ≤ length bytes.now) × (size ≤ h.len)) }
     ensures head { IfSome result (λ h. (8 ≤ h.place) × ((8 ≤ h.link) ⊎ (h.link ≡ 0))) }
-    ensures found { (sizes : List SegmentSize) (xs : List Extent) → IsDivided sizes bytes.now xs → MatchOption result (hole_at size 8 xs ≡ None) (IsFound sizes bytes.now size xs) }
+    ensures found { IsSearched bytes.now size result }
 {
     let mut link = 0;
     let mut end = 8;
@@ -90,12 +90,12 @@ pub fn take_hole(bytes: &mut [u8], size: u16) -> Option<u16>
     requires block { (8 ≤ length bytes.old) × (length bytes.old ≤ 32768) }
     requires size { (0 < size) × (size % 8 ≡ 0) }
     ensures found { (sizes : List SegmentSize) (xs : List Extent) → IsDivided sizes bytes.old xs → result ≡ hole_at size 8 xs }
-    ensures after { (sizes : List SegmentSize) (xs : List Extent) → IsDivided sizes bytes.old xs → OnSome result (IsDivided sizes bytes.new (after_take size xs)) }
+    ensures after { (sizes : List SegmentSize) → IsTakenFrom sizes bytes.old size result bytes.new }
     ensures fits { IfSome result (λ p. (8 ≤ p) × (p + size ≤ length bytes.old)) }
     ensures none { IfNone result (bytes.new ≡ bytes.old) }
     ensures len { length bytes.new ≡ length bytes.old }
     ensures head { AgreeOn 2 6 bytes.old bytes.new }
-    ensures others { (sizes : List SegmentSize) (xs : List Extent) (q n : ℕ) → IsDivided sizes bytes.old xs → UsedAt 8 xs q n → AgreeOn q n bytes.old bytes.new }
+    ensures others { (sizes : List SegmentSize) → KeepsSegments sizes bytes.old bytes.new }
 {
     let hole = find_hole(bytes, size)?;
     let rest = hole.place + size as usize;
