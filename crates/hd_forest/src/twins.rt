@@ -12,7 +12,6 @@ ghost use Rattle.hd_forest.specs.TwinPlaces.{twin_places};
 ghost use Rattle.hd_forest.specs.BlockTwins.{IsNumberOf, IsWalkFrom};
 
 use crate::block_twins::{Walk, number_of_key, pass_in};
-use crate::read::code_at;
 use hd_bytes::read_u32;
 use hd_dbd::{Dbd, Refused};
 use hd_prefix::{Layout, Pointer};
@@ -126,22 +125,23 @@ pub fn twins_around<S: BlockStore>(
     Ok(TwinsAround { before, from: 0 })
 }
 
-/// Of a segment and its later twins the first whose key is not below a key, 0 where all are below. Where the type has no key none is
-/// below, and it is the segment itself. The blocks of the twins up to that one are read, and the segment once more.
+/// Of a segment of the type of a code and its later twins the first whose key is not below a key, 0 where all are below. Where the type has no
+/// key none is below, and it is the segment itself. The blocks of the twins up to that one are read.
 pub fn twin_from<S: BlockStore>(
     volume: &mut Volume<S>,
     dbd: &Dbd,
+    code: u8,
     address: u32,
     key: &[u8],
 ) -> Result<u32, Refused>
     requires of { IsTrue volume.old.is_sound → IsVolumeOf dbd.now volume.old }
     requires holds { IsTrue volume.old.is_sound → HasForest dbd.now volume.old }
     requires there { IsTrue volume.old.is_sound → IsSegment (links_of dbd.now.types volume.old) address }
+    requires typed { IsTrue volume.old.is_sound → (links_of dbd.now.types volume.old).code address ≡ code }
     ensures read { IsRead volume.old result volume.new }
     ensures value { IfOk result (λ r. IsTrue volume.old.is_sound → IsTwinFrom dbd.now.types (links_of dbd.now.types volume.old) key.now address r) }
     ensures refusal { OnlyDevice result }
 {
-    let code = code_at(volume, dbd, address)?;
     let Some(places) = twin_places(dbd, code) else {
         return Ok(address);
     };

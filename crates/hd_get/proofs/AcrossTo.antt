@@ -52,7 +52,7 @@ module _ (types : List SegmentType) (rows : List Segment) (k : ℕ) where
       by_code false e h more = ap (λ (t : Bool). meets_own types rows k b && t) (more h) ∙ and_no (meets_own types rows k b)
 
   -- no row below the least key is admitted
-  below_fails : (code : ℕ) (ssas : List Ssa) (key : List ℕ) → least_key_of types ssas code ≡ Some key → (row_at rows k).code ≡ code → is_key_below types key (row_at rows k) ≡ true
+  pub below_fails : (code : ℕ) (ssas : List Ssa) (key : List ℕ) → least_key_of types ssas code ≡ Some key → (row_at rows k).code ≡ code → is_key_below types key (row_at rows k) ≡ true
       → admits types rows ssas k ≡ false
   below_fails code ssas key least own below = by_type (type_of types code) refl least
     where

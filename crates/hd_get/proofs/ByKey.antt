@@ -14,6 +14,7 @@ use Rattle.hd_links.specs.Placed.{Placed}
 use Rattle.hd_links.specs.Steps.{rows_of, address_at, path_at}
 use Rattle.hd_links.proofs.ValidRows.{held_valid}
 use Rattle.hd_image.specs.Records.{links_of}
+use Rattle.hd_forest.specs.Rows.{IsOnRow}
 use Rattle.hd_image.specs.Holding.{HoldsPlaced}
 use Rattle.hd_changes.specs.Roots.{is_root, is_root_from, first_row, address_of_first}
 use Rattle.hd_changes.specs.Found.{AreRootsBelow}
@@ -22,10 +23,10 @@ use Rattle.hd_calls.specs.Ssas.{Ssa}
 use Rattle.hd_calls.specs.Satisfies.{is_named}
 use Rattle.hd_calls.proofs.Searches.{skipped}
 use Rattle.hd_calls.specs.Admits.{NonePass, AreRowsOf}
+use Rattle.hd_calls.proofs.OnPaths.{root_code}
 use Rattle.hd_calls.proofs.SearchTwins.{earlier_roots_fail}
-use Rattle.hd_get.specs.Searches.{LeadsWithin, path_within, parent_path, MayBeginAt}
-use Rattle.hd_get.specs.Starts.{AreNamed, least_root_key, root_from, unique_start, RefusesRootsBelow}
-use Rattle.hd_get.proofs.Spans.{parent_span}
+use Rattle.hd_get.specs.Searches.{LeadsWithin, path_within, parent_path}
+use Rattle.hd_get.specs.Starts.{AreNamed, root_from, RefusesRootsBelow, BeginsAt}
 use Rattle.hd_get.proofs.Climbs.{path_is, some_path}
 use Rattle.hd_get.proofs.Starts.{ends_whole}
 
@@ -54,14 +55,6 @@ module _ (d : Database) (v : VolumeState) (f : Forest Placed) (H : HoldsPlaced d
           let b : length (parent_path d.types f i) ≡ length (path_at d.types f q) = ap (λ (xs : List ℕ). length xs) above in
           let c : length (path_at d.types f i) ≡ 1 = ap (λ (xs : List ℕ). length xs) alone in
           omega arith)
-
-  -- nor above the first row
-  first_alone : 0 < length (rows_of f) → parent_row d.types (rows_of f) 0 ≡ None
-  first_alone some = by (parent_row d.types (rows_of f) 0) refl
-    where
-      by : (o : Option ℕ) → parent_row d.types (rows_of f) 0 ≡ o → parent_row d.types (rows_of f) 0 ≡ None
-      by None is = is
-      by (Some q) is = absurd (let before : q < 0 = (parent_span d.types (rows_of f) 0 q some is).0 in omega arith)
 
   -- the first root from a key on: it is within the rows or behind them, none stands above it, and all roots before it have lesser keys
   record IsFirstRoot (key : List ℕ) (n : ℕ) : Type 0 where
@@ -109,36 +102,47 @@ module _ (d : Database) (v : VolumeState) (f : Forest Placed) (H : HoldsPlaced d
     | inr fails ↦ fails
   ]
 
-  -- before the row where GU begins none passes
-  none_before : (test : ℕ → Bool) (ssas : List Ssa) → AreNamed test d.types (rows_of f) ssas → IfSome (least_root_key d.types ssas) (λ key. RefusesRootsBelow d.types ssas key)
-      → (number : ℕ) → number ≡ unique_start d.types (rows_of f) ssas
-      → (number ≤ length (rows_of f)) × NonePass test 0 number × (number < length (rows_of f) → parent_row d.types (rows_of f) number ≡ None)
-  none_before test [] named refuses number is = from_first number is
-    where
-      from_first : (number : ℕ) → number ≡ 0 → (number ≤ length (rows_of f)) × NonePass test 0 number × (number < length (rows_of f) → parent_row d.types (rows_of f) number ≡ None)
-      from_first number z = ((omega arith), (λ j a b. absurd (omega arith)), λ w. subst (λ n. parent_row d.types (rows_of f) n ≡ None) (sym z) (first_alone (omega arith)))
-  none_before test (a ∷ ssas) named refuses number is = by (least_root_key d.types (a ∷ ssas)) refuses is
-    where
-      by : (o : Option (List ℕ)) → IfSome o (λ key. RefusesRootsBelow d.types (a ∷ ssas) key) → number ≡ option_map_or (λ key. root_from d.types (rows_of f) key) o 0
-          → (number ≤ length (rows_of f)) × NonePass test 0 number × (number < length (rows_of f) → parent_row d.types (rows_of f) number ≡ None)
-      by None refuses z = ((omega arith), (λ j a b. absurd (omega arith)), λ w. subst (λ n. parent_row d.types (rows_of f) n ≡ None) (sym z) (first_alone (omega arith)))
-      by (Some key) refuses e =
-          let R : IsFirstRoot key number = subst (IsFirstRoot key) (sym e) (first_root key) in (
-            R.within,
-            (λ j low high. unnamed test (a ∷ ssas) named (omega arith) j
-                (earlier_roots_fail d.types (rows_of f) (a ∷ ssas) number rows_are R.within
-                (λ k before code. (let root : is_root (rows_of f) k ≡ true = eq-eqb (row_at (rows_of f) k).code 1 code in refuses (rows_of f) k root (R.lesser k before root))) j low high)),
-            R.alone,
-          )
+  -- before the first root from a key on, below which no root has what is asked, none is named
+  pub none_before : (ssas : List Ssa) (key : List ℕ) → RefusesRootsBelow d.types ssas key → NonePass (is_named d.types (rows_of f) ssas) 0 (root_from d.types (rows_of f) key)
+  none_before ssas key refuses =
+      let R = first_root key in
+      earlier_roots_fail d.types (rows_of f) ssas (root_from d.types (rows_of f) key) rows_are R.within
+      (λ k before code. (let root : is_root (rows_of f) k ≡ true = eq-eqb (row_at (rows_of f) k).code 1 code in refuses (rows_of f) k root (R.lesser k before root)))
 
-  pub begins_unique : (test : ℕ → Bool) (ssas : List Ssa) → AreNamed test d.types (rows_of f) ssas → (own : ℕ → Bool) (path : List ℕ) → IfSome (least_root_key d.types ssas) (λ key. RefusesRootsBelow d.types ssas key)
-      → LeadsWithin d.types (links_of d.types v) f 0 (length (rows_of f)) path (unique_start d.types (rows_of f) ssas)
-      → MayBeginAt test own d.types f 0 (length (rows_of f)) 0 path
-  begins_unique test ssas named own path refuses leads =
-      let N = none_before test ssas named refuses (unique_start d.types (rows_of f) ssas) refl in record {
-        number = unique_start d.types (rows_of f) ssas;
-        same = skipped test 0 (unique_start d.types (rows_of f) ssas) (length (rows_of f)) (omega arith) N.1;
-        ends = leads.ends;
-        above = λ w. ap (λ (o : Option ℕ). option_map_or (λ q. list_all own (path_of d.types (rows_of f) q)) o true) (N.2 w);
-        is = leads.is;
-      }
+  -- a path to the first root from a key on that is not empty is a root's
+  pub root_row : (key : List ℕ) (path : List ℕ) → LeadsWithin d.types (links_of d.types v) f 0 (length (rows_of f)) path (root_from d.types (rows_of f) key) → 0 < length path
+      → IsOnRow d.types (links_of d.types v) f path (root_from d.types (rows_of f) key) × ((row_at (rows_of f) (root_from d.types (rows_of f) key)).code ≡ 1)
+  root_row key path leads some = elim (cases_lt (root_from d.types (rows_of f) key) (length (rows_of f))) [
+    | inl w ↦ (
+        record { holds = H.records; within = w; is = leads.is ∙ cond-true (nat_lt (root_from d.types (rows_of f) key) (length (rows_of f))) (path_at d.types f (root_from d.types (rows_of f) key)) [] (lt-ltb (root_from d.types (rows_of f) key) (length (rows_of f)) w) },
+        root_code d.types (rows_of f) rows_are (root_from d.types (rows_of f) key) w ((first_root key).alone w),
+      )
+    | inr past ↦ absurd
+        (let none : length path ≡ 0
+        = ap (λ (xs : List ℕ). length xs) (leads.is ∙ cond-false (nat_lt (root_from d.types (rows_of f) key) (length (rows_of f))) (path_at d.types f (root_from d.types (rows_of f) key)) [] (le-ltb (root_from d.types (rows_of f) key) (length (rows_of f)) past)) in
+        omega arith)
+  ]
+
+  -- where none is named before a row, the search may begin there
+  pub begins_at : (test : ℕ → Bool) (ssas : List Ssa) → AreNamed test d.types (rows_of f) ssas → 0 < length ssas → (path : List ℕ) (number : ℕ)
+      → NonePass (is_named d.types (rows_of f) ssas) 0 number → LeadsWithin d.types (links_of d.types v) f 0 (length (rows_of f)) path number → BeginsAt test d v f path
+  begins_at test ssas named some path number none leads = record {
+    number = number;
+    same = skipped test 0 number (length (rows_of f)) (omega arith) (λ j low high. unnamed test ssas named some j (none j low high));
+    leads = leads;
+  }
+
+  -- so it may where a path goes down from a row before which none is named
+  pub begins_below : (test : ℕ → Bool) (ssas : List Ssa) → AreNamed test d.types (rows_of f) ssas → 0 < length ssas → (i : ℕ) → NonePass (is_named d.types (rows_of f) ssas) 0 i
+      → (path : List ℕ) (number : ℕ) → i ≤ number → NonePass (is_named d.types (rows_of f) ssas) i number → number < length (rows_of f) → path ≡ path_at d.types f number → BeginsAt test d v f path
+  begins_below test ssas named some i before path number later none within is =
+      begins_at test ssas named some path number
+      (λ j low high. elim (cases_lt j i) [
+        | inl early ↦ before j low early
+        | inr late ↦ none j late high
+      ])
+      (record {
+        holds = H.records;
+        ends = ends_whole d.types f number;
+        is = is ∙ sym (cond-true (nat_lt number (length (rows_of f))) (path_at d.types f number) [] (lt-ltb number (length (rows_of f)) within));
+      })

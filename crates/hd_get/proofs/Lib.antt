@@ -13,6 +13,7 @@ pub mod AcrossTo
 pub mod Looks
 pub mod Starts
 pub mod ByKey
+pub mod Descents
 pub mod KeptRows
 pub mod KeptPaths
 pub mod Lowering

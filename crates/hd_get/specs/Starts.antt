@@ -5,6 +5,7 @@ use Rattle.hd_dbd.specs.Types.{SegmentType}
 use Rattle.hd_dbd.specs.Hierarchy.{Database, type_of}
 use Rattle.hd_dbd.specs.Segment.{Segment}
 use Rattle.hd_dbd.specs.Positions.{Position}
+use Rattle.hd_dbd.specs.Searches.{first_from}
 use Rattle.hd_dbd.specs.Forest.{Forest}
 use Rattle.hd_volume.specs.Volumes.{VolumeState}
 use Rattle.hd_volume.specs.Indexes.{key_less}
@@ -23,7 +24,7 @@ use Rattle.hd_calls.specs.Satisfies.{is_named}
 use Rattle.hd_calls.specs.Gets.{search_start, search_end}
 use Rattle.hd_calls.specs.Admits.{admits}
 use Rattle.hd_ssa.specs.LeastKeys.{least_key}
-use Rattle.hd_get.specs.Searches.{LeadsWithin, MayBeginAt}
+use Rattle.hd_get.specs.Searches.{LeadsWithin}
 
 -- The sound volume holds the forest, and what is kept stands for the position in it.
 pub record IsKeptIn (d : Database) (v : VolumeState) (f : Forest Placed) (k : Kept) (q : Position) : Type 0 where
@@ -65,10 +66,6 @@ least_root_key types (a ∷ ssas) =
 abbrev pub root_from : List SegmentType → List Segment → List ℕ → ℕ
 root_from types rows key = unwrap_or (first_row rows (is_root_from types rows key)) (length rows)
 
--- Where GU begins: at the first root whose key is not below the least key of the root's SSA, else at the first row.
-abbrev pub unique_start : List SegmentType → List Segment → List Ssa → ℕ
-unique_start types rows ssas = option_map_or (λ key. root_from types rows key) (least_root_key types ssas) 0
-
 -- the sound volume holds a forest, and its index, which is an index set, the forest's roots
 abbrev pub HasRoots : Database → VolumeState → Type 0
 HasRoots d v = IsTrue v.is_sound → (f : Forest Placed) × HoldsPlaced d v f × IsLater v
@@ -79,22 +76,20 @@ LeadsToRoot d v key path =
     (f : Forest Placed) → IsTrue v.is_sound → HoldsPlaced d v f
     → LeadsWithin d.types (links_of d.types v) f 0 (length (rows_of f)) path (root_from d.types (rows_of f) key)
 
--- in each forest that the sound volume holds, the path leads to where GU begins
-abbrev pub LeadsToUnique : Database → VolumeState → List Ssa → List ℕ → Type 0
-LeadsToUnique d v ssas path =
-    (f : Forest Placed) → IsTrue v.is_sound → HoldsPlaced d v f
-    → LeadsWithin d.types (links_of d.types v) f 0 (length (rows_of f)) path (unique_start d.types (rows_of f) ssas)
-
 -- where there are SSAs, only rows that they name pass the test
 abbrev pub AreNamed : (ℕ → Bool) → List SegmentType → List Segment → List Ssa → Type 0
 AreNamed test types rows ssas = (j : ℕ) → 0 < length ssas → test j ≡ true → is_named types rows ssas j ≡ true
 
--- In each forest that the sound volume holds, the search of GU for the first row that passes a test, of rows that the SSAs name, may as
--- well begin where the path leads.
+-- The search for the first row that passes a test may as well begin where the path leads: none before that passes.
+pub record BeginsAt (test : ℕ → Bool) (d : Database) (v : VolumeState) (f : Forest Placed) (path : List ℕ) : Type 0 where
+  pub number : ℕ
+  pub same : first_from test 0 (length (rows_of f)) ≡ first_from test number (length (rows_of f))
+  pub leads : LeadsWithin d.types (links_of d.types v) f 0 (length (rows_of f)) path number
+
+-- in each forest that the sound volume holds, so may the search of GU, whose test only rows pass that the SSAs name
 abbrev pub BeginsUnique : Database → VolumeState → List Ssa → List ℕ → Type 0
 BeginsUnique d v ssas path =
-    (f : Forest Placed) (test admits : ℕ → Bool) → IsTrue v.is_sound → HoldsPlaced d v f → AreNamed test d.types (rows_of f) ssas
-    → MayBeginAt test admits d.types f 0 (length (rows_of f)) 0 path
+    (f : Forest Placed) (test : ℕ → Bool) → IsTrue v.is_sound → HoldsPlaced d v f → AreNamed test d.types (rows_of f) ssas → BeginsAt test d v f path
 
 -- no root whose key is below a key has what the SSAs ask of it
 abbrev pub RefusesRootsBelow : List SegmentType → List Ssa → List ℕ → Type 0

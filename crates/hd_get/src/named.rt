@@ -1,6 +1,8 @@
-ghost use Rattle.std.specs.Prelude.{◌≡◌, option_copied, IfOk};
+ghost use Rattle.std.specs.Prelude.{◌≡◌, option_copied, IsTrue, IfOk};
 ghost use Rattle.hd_dbd.specs.Refusals.{OnlyDevice};
 ghost use Rattle.hd_volume.specs.Calls.{IsRead};
+ghost use Rattle.hd_image.specs.Records.{links_of};
+ghost use Rattle.hd_forest.specs.Walks.{tip};
 ghost use Rattle.hd_get.specs.Searches.{IsOf, IsThere};
 ghost use Rattle.hd_get.specs.Asking.{may_read, verdict_beside, verdict_beside_to, verdict_to, verdict_down, verdict_from, GoesAcrossFrom};
 
@@ -126,6 +128,7 @@ fn verdict_across<S: BlockStore>(
 ) -> Result<Verdict, Refused>
     requires of { IsOf dbd.now volume.old }
     requires there { IsThere dbd.now volume.old path.now }
+    requires typed { IsTrue volume.old.is_sound → (links_of dbd.now.types volume.old).code (tip path.now) ≡ code }
     ensures read { IsRead volume.old result volume.new }
     ensures value { IfOk result (λ v. GoesAcrossFrom dbd.now volume.old ssas.now code path.now v) }
     ensures refusal { OnlyDevice result }
@@ -134,7 +137,7 @@ fn verdict_across<S: BlockStore>(
         return Ok(Verdict::Across);
     };
     let address = tip_of(path);
-    let twin = twin_from(volume, dbd, address, key)?;
+    let twin = twin_from(volume, dbd, code, address, key)?;
     Ok(verdict_from(address, twin))
 }
 
