@@ -11,6 +11,7 @@ use Rattle.hd_bytes.proofs.NumberLemmas.{number-moved}
 use Rattle.hd_bytes.proofs.BlockLemmas.{byte-at, length-block}
 use Rattle.hd_dbd.specs.Types.{SegmentType}
 use Rattle.hd_dbd.specs.Hierarchy.{Database}
+use Rattle.hd_dbd.specs.Rows.{key_of}
 use Rattle.hd_dbd.specs.Forest.{Forest}
 use Rattle.hd_dbd.proofs.StoredSizes.{block_size-bounds}
 use Rattle.hd_volume.specs.Volumes.{VolumeState, block_at, IsKind}
@@ -28,7 +29,7 @@ use Rattle.hd_forest.specs.declared.twins.TwinPlaces.{TwinPlaces}
 use Rattle.hd_forest.specs.declared.block_twins.Walk.{Walk}
 use Rattle.hd_forest.specs.Twins.{IsBehind, is_key_below, IsTwinFrom, IsLastBelow}
 use Rattle.hd_forest.specs.TwinPlaces.{twin_places}
-use Rattle.hd_forest.specs.BlockTwins.{HasTwin, forward_in, is_below_in, twin_in, twin_before, AreBelowIn, IsWalk, IsWalkFrom}
+use Rattle.hd_forest.specs.BlockTwins.{HasTwin, forward_in, key_in, is_below_in, twin_in, twin_before, AreBelowIn, IsWalk, IsWalkFrom}
 use Rattle.hd_forest.proofs.Chains.{passed}
 use Rattle.hd_forest.proofs.Held.{held}
 use Rattle.hd_forest.proofs.Reading.{lent}
@@ -42,6 +43,7 @@ pub record IsTwinOf (types : List SegmentType) (m : Links) (places : TwinPlaces)
   pub there : HasTwin places block start a
   pub forward : forward_in places block start a ≡ m.forward a
   pub below : is_below_in places block start key a ≡ is_key_below types key (segment_at m a)
+  pub key_is : key_in places block start a ≡ key_of types (segment_at m a)
 
 -- the number at a place of a segment, in its block
 number-in : (block s : List ℕ) (q o : ℕ) → s ≡ bytes_at block q (length s) → q + length s ≤ length block → o + 4 ≤ length s → number_at 4 block (q + o) ≡ number_at 4 s o
@@ -78,6 +80,9 @@ twin-of d v places key a fit of there are =
       below = ap (λ (i : ℕ). is_lt (slice_cmp nat_cmp (bytes_at block (i + places.key) places.length) key)) at
           ∙ ap (λ (b : List ℕ). is_lt (slice_cmp nat_cmp b key)) (range-of block s q places.key places.length u.1 R.key_long) ∙ R.key_is
           ∙ ap (λ (b : List ℕ). is_key_below d.types key (record { code = code_of b; bytes = bytes_of d.types (code_of b) b })) (sym l.stored);
+      key_is = ap (λ (i : ℕ). bytes_at block (i + places.key) places.length) at
+          ∙ range-of block s q places.key places.length u.1 R.key_long ∙ R.has_key
+          ∙ ap (λ (b : List ℕ). key_of d.types (record { code = code_of b; bytes = bytes_of d.types (code_of b) b })) (sym l.stored);
     }
 
 -- ---- one block
@@ -152,6 +157,8 @@ module _ (d : Database) (v : VolumeState) (f : Forest Placed) (fit : IsDatabase 
     pub steps : ℕ
     pub come : Come (turns + steps) walk.before walk.twin
     pub ends : walk.is_found ≡ true → is_key_below d.types key (segment_at m walk.twin) ≡ false
+    pub there : walk.is_found ≡ true → IsSegment m walk.twin
+    pub equal : walk.is_equal ≡ true → (walk.is_found ≡ true) × (key_of d.types (segment_at m walk.twin) ≡ key)
     pub moves : walk.is_found ≡ false → 0 < steps
 
   -- a block has the twin that comes next
@@ -170,6 +177,10 @@ module _ (d : Database) (v : VolumeState) (f : Forest Placed) (fit : IsDatabase 
         steps = W.steps;
         come = come;
         ends = λ found. sym (said-of n kind (turns + W.steps) walk.before walk.twin come (W.found found).0).below ∙ (W.found found).1;
+        there = λ found. come.passed.there (in-block n kind walk.twin (W.found found).0).0;
+        equal = λ same. (
+            let E = W.equal same in
+            (E.0, sym (said-of n kind (turns + W.steps) walk.before walk.twin come (W.found E.0).0).key_is ∙ E.1));
         moves = λ on. W.moves on (next-of turns before twin H some).there;
       }
 

@@ -32,9 +32,13 @@ pub record HasTwin (places : TwinPlaces) (block : List ℕ) (start a : ℕ) : Ty
 abbrev pub forward_in : TwinPlaces → List ℕ → ℕ → ℕ → ℕ
 forward_in places block start a = number_at 4 block (a - start + places.forward)
 
+-- the key of a twin in a block
+abbrev pub key_in : TwinPlaces → List ℕ → ℕ → ℕ → List ℕ
+key_in places block start a = bytes_at block (a - start + places.key) places.length
+
 -- the key of a twin in a block is below another
 abbrev pub is_below_in : TwinPlaces → List ℕ → ℕ → List ℕ → ℕ → Bool
-is_below_in places block start key a = is_lt (slice_cmp nat_cmp (bytes_at block (a - start + places.key) places.length) key)
+is_below_in places block start key a = is_lt (slice_cmp nat_cmp (key_in places block start a) key)
 
 -- what so many steps along the twins of a block from p come to
 abbrev pub twin_in : TwinPlaces → List ℕ → ℕ → ℕ → ℕ → ℕ
@@ -61,6 +65,7 @@ pub record IsWalk (places : TwinPlaces) (block : List ℕ) (start : ℕ) (key : 
   pub twin : walk.twin ≡ twin_in places block start steps p
   pub before : walk.before ≡ twin_before places block start steps other p
   pub found : walk.is_found ≡ true → HasTwin places block start walk.twin × (is_below_in places block start key walk.twin ≡ false)
+  pub equal : walk.is_equal ≡ true → (walk.is_found ≡ true) × (key_in places block start walk.twin ≡ key)
   pub moves : walk.is_found ≡ false → HasTwin places block start p → 0 < steps
 
 -- such a walk in the block of p

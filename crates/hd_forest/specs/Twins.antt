@@ -6,6 +6,7 @@ use Rattle.std.specs.Cmp.Lexicographic.{slice_cmp}
 use Rattle.hd_dbd.specs.Types.{SegmentType}
 use Rattle.hd_dbd.specs.Segment.{Segment}
 use Rattle.hd_dbd.specs.Hierarchy.{type_of, part_of}
+use Rattle.hd_dbd.specs.Rows.{key_of}
 use Rattle.hd_links.specs.Links.{Links, IsSegment, segment_at}
 use Rattle.hd_links.specs.Pointers.{IsInChain}
 
@@ -53,3 +54,8 @@ pub record IsTwinFrom (types : List SegmentType) (m : Links) (key : List ℕ) (p
 pub record IsLastBelow (types : List SegmentType) (m : Links) (key : List ℕ) (p before from : ℕ) : Type 0 where
   pub behind : IsBehind m p before from
   pub below : 0 < before → is_key_below types key (segment_at m before) ≡ true
+
+-- The address is that of a segment, whose key is this.
+pub record IsOfKey (types : List SegmentType) (m : Links) (key : List ℕ) (a : ℕ) : Type 0 where
+  pub there : IsSegment m a
+  pub is : key_of types (segment_at m a) ≡ key

@@ -10,13 +10,14 @@ use crate::twins::TwinPlaces;
 use hd_bytes::{read_u32, write_bytes};
 use hd_dbd::compare_keys;
 
-/// What a walk along the twins of a block came to: the last that was passed over, the one behind it, 0 for none, and whether the key of this
-/// was found not to be below.
+/// What a walk along the twins of a block came to: the last that was passed over, the one behind it, 0 for none, whether the key of this was
+/// found not to be below, and then whether it was found to be equal.
 #[derive(Clone, Copy, Debug)]
 pub struct Walk {
     pub before: u32,
     pub twin: u32,
     pub is_found: bool,
+    pub is_equal: bool,
 }
 
 /// The number that the first eight bytes make, the highest first.
@@ -62,6 +63,14 @@ fn is_below(block: &[u8], place: usize, count: usize, key: &[u8], end: usize, nu
     compare_keys(&block[place..place + count], key).is_lt()
 }
 
+/// Whether a key is what stands at a place.
+fn is_key_at(block: &[u8], place: usize, count: usize, key: &[u8]) -> bool
+    requires within { place + count ≤ length block.now }
+    ensures { (result ≡ true) ↔ (bytes_at block.now place count ≡ key.now) }
+{
+    &block[place..place + count] == key
+}
+
 /// Whether a block has the twin at an address, with its twin forward and its key.
 fn has_twin(places: TwinPlaces, block: &[u8], start: u32, twin: u32) -> bool
     ensures { (result ≡ true) ↔ HasTwin places block.now start twin }
@@ -96,6 +105,7 @@ fn pass_on(
                 before,
                 twin,
                 is_found: false,
+                is_equal: false,
             };
         }
         let at = (twin - start) as usize;
@@ -104,6 +114,7 @@ fn pass_on(
                 before,
                 twin,
                 is_found: true,
+                is_equal: is_key_at(block, at + places.key, places.length, key),
             };
         }
         before = twin;
@@ -113,6 +124,7 @@ fn pass_on(
         before,
         twin,
         is_found: false,
+        is_equal: false,
     }
 }
 

@@ -1,4 +1,4 @@
-ghost use Rattle.std.specs.Prelude.{◌≡◌, ◌+◌, ◌/◌, ◌≤◌, length, IsTrue, Some, IfSome, IfOk};
+ghost use Rattle.std.specs.Prelude.{◌≡◌, ◌+◌, ◌/◌, ◌≤◌, length, true, IsTrue, Some, IfSome, IfOk};
 ghost use Rattle.hd_bytes.specs.Blocks.{HasBlock};
 ghost use Rattle.hd_bytes.specs.Ranges.{bytes_at};
 ghost use Rattle.hd_bytes.specs.Numbers.{number_at};
@@ -7,7 +7,7 @@ ghost use Rattle.hd_volume.specs.Calls.{IsRead};
 ghost use Rattle.hd_links.specs.Links.{IsSegment};
 ghost use Rattle.hd_image.specs.Records.{links_of, IsVolumeOf};
 ghost use Rattle.hd_forest.specs.Walks.{HasForest};
-ghost use Rattle.hd_forest.specs.Twins.{IsTwinFrom, IsLastBelow};
+ghost use Rattle.hd_forest.specs.Twins.{IsTwinFrom, IsLastBelow, IsOfKey};
 ghost use Rattle.hd_forest.specs.TwinPlaces.{twin_places};
 ghost use Rattle.hd_forest.specs.BlockTwins.{IsNumberOf, IsWalkFrom};
 
@@ -61,11 +61,12 @@ pub fn forward_in(places: TwinPlaces, segment: &[u8]) -> u32
     read_u32(segment, place)
 }
 
-/// The twins around a key: the last whose key is below, and the first whose key is not, 0 for none.
+/// The twins around a key: the last whose key is below, and the first whose key is not, 0 for none, and whether that one's was found to be equal.
 #[derive(Clone, Copy, Debug)]
 pub struct TwinsAround {
     pub before: u32,
     pub from: u32,
+    pub is_equal: bool,
 }
 
 /// Passes over the twins of one block from the one at an address on, behind another, as far as their keys are below a key. One access.
@@ -105,6 +106,7 @@ pub fn twins_around<S: BlockStore>(
     ensures read { IsRead volume.old result volume.new }
     ensures from { IfOk result (λ r. IsTrue volume.old.is_sound → IsTwinFrom dbd.now.types (links_of dbd.now.types volume.old) key.now address r.from) }
     ensures before { IfOk result (λ r. IsTrue volume.old.is_sound → IsLastBelow dbd.now.types (links_of dbd.now.types volume.old) key.now address r.before r.from) }
+    ensures equal { IfOk result (λ r. IsTrue volume.old.is_sound → r.is_equal ≡ true → IsOfKey dbd.now.types (links_of dbd.now.types volume.old) key.now r.from) }
     ensures refusal { OnlyDevice result }
 {
     let number = number_of_key(places, key);
@@ -113,16 +115,28 @@ pub fn twins_around<S: BlockStore>(
     let mut twin = address;
     for count in 0..most {
         if twin == 0 {
-            return Ok(TwinsAround { before, from: 0 });
+            return Ok(TwinsAround {
+                before,
+                from: 0,
+                is_equal: false,
+            });
         }
         let walk = pass_block(volume, places, before, twin, key, number)?;
         before = walk.before;
         twin = walk.twin;
         if walk.is_found {
-            return Ok(TwinsAround { before, from: twin });
+            return Ok(TwinsAround {
+                before,
+                from: twin,
+                is_equal: walk.is_equal,
+            });
         }
     }
-    Ok(TwinsAround { before, from: 0 })
+    Ok(TwinsAround {
+        before,
+        from: 0,
+        is_equal: false,
+    })
 }
 
 /// Of a segment of the type of a code and its later twins the first whose key is not below a key, 0 where all are below. Where the type has no

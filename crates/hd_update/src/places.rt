@@ -153,7 +153,11 @@ fn around_key<S: BlockStore>(
 {
     let first = first_child(volume, dbd, parent, code)?;
     if first == 0 {
-        return Ok(TwinsAround { before: 0, from: 0 });
+        return Ok(TwinsAround {
+            before: 0,
+            from: 0,
+            is_equal: false,
+        });
     }
     twins_around(volume, dbd, places, first, dbd.key_of(code, bytes))
 }

@@ -56,7 +56,7 @@ pass_block-requires-clause-there g c now =
 
 pub returns-then-walk-clause-read : goal.returns-then-walk-clause-read
 returns-then-walk-clause-read g c =
-    let around : TwinsAround = record { before = c.in_ok-walk.walk.before; from = c.in_ok-walk.walk.twin } in
+    let around : TwinsAround = record { before = c.in_ok-walk.walk.before; from = c.in_ok-walk.walk.twin; is_equal = c.in_ok-walk.walk.is_equal } in
     reads-join (Ok around) c.loop-count.invariant.read (read-ok around c.in_ok-walk.ensures.read)
 
 -- the first whose key is not below was found
@@ -76,6 +76,20 @@ found g c sound =
     (c.in_ok-walk.ensures.value same.sound)) in
     around-to d u h.0 of.fit of h.1 c.args.places c.args.key.now c.args.address (c.requires.places sound) (C.0 + W.steps) c.in_ok-walk.walk.before c.in_ok-walk.walk.twin W.come
     (W.ends c.if-walk.true)
+
+pub returns-then-walk-clause-equal : goal.returns-then-walk-clause-equal
+returns-then-walk-clause-equal g c sound same =
+    let d = c.args.dbd.now in
+    let u = c.args.volume.now in
+    let of = c.requires.of sound in
+    let h = c.requires.holds sound in
+    let C = c.loop-count.invariant.come h.0 sound h.1 in
+    let kept = after-read d u c.loop-count.volume c.loop-count.invariant.read sound in
+    let W = walked-in d u h.0 of.fit of h.1 c.args.places c.args.key.now c.args.address (c.requires.places sound) C.0 c.loop-count.before c.loop-count.twin c.in_ok-walk.walk C.2
+    (some c.loop-count.twin c.if-twin-eq0.false)
+    (walk-before u c.loop-count.volume c.args.places c.args.key.now c.loop-count.before c.loop-count.twin c.in_ok-walk.walk c.loop-count.invariant.read kept.sound
+    (c.in_ok-walk.ensures.value kept.sound)) in
+    record { there = W.there c.if-walk.true; is = (W.equal same).1 }
 
 pub returns-then-walk-clause-from : goal.returns-then-walk-clause-from
 returns-then-walk-clause-from g c sound = (found g c sound).0
