@@ -114,9 +114,9 @@ module _ (d : Database) (v : VolumeState) (f : Forest Placed) (H : HoldsPlaced d
       → IsOnRow d.types (links_of d.types v) f path (root_from d.types (rows_of f) key) × ((row_at (rows_of f) (root_from d.types (rows_of f) key)).code ≡ 1)
   root_row key path leads some = elim (cases_lt (root_from d.types (rows_of f) key) (length (rows_of f))) [
     | inl w ↦ (
-        record { holds = H.records; within = w; is = leads.is ∙ cond-true (nat_lt (root_from d.types (rows_of f) key) (length (rows_of f))) (path_at d.types f (root_from d.types (rows_of f) key)) [] (lt-ltb (root_from d.types (rows_of f) key) (length (rows_of f)) w) },
-        root_code d.types (rows_of f) rows_are (root_from d.types (rows_of f) key) w ((first_root key).alone w),
-      )
+      record { holds = H.records; within = w; is = leads.is ∙ cond-true (nat_lt (root_from d.types (rows_of f) key) (length (rows_of f))) (path_at d.types f (root_from d.types (rows_of f) key)) [] (lt-ltb (root_from d.types (rows_of f) key) (length (rows_of f)) w) },
+      root_code d.types (rows_of f) rows_are (root_from d.types (rows_of f) key) w ((first_root key).alone w),
+    )
     | inr past ↦ absurd
         (let none : length path ≡ 0
         = ap (λ (xs : List ℕ). length xs) (leads.is ∙ cond-false (nat_lt (root_from d.types (rows_of f) key) (length (rows_of f))) (path_at d.types f (root_from d.types (rows_of f) key)) [] (le-ltb (root_from d.types (rows_of f) key) (length (rows_of f)) past)) in

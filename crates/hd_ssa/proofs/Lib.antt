@@ -4,4 +4,5 @@ pub mod Past
 pub mod Bounds
 pub mod Resolving
 pub mod Singles
+pub mod EqualKeys
 pub mod AtOnce

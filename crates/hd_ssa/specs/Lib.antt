@@ -1,5 +1,6 @@
 pub mod Texts
 pub mod LeastKeys
+pub mod EqualKeys
 pub mod Questions
 pub mod Named
 pub mod AtOnce

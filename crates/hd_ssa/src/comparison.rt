@@ -6,6 +6,7 @@ ghost use Rattle.hd_calls.specs.Ssas.{operator_of, read_comparison, begins_with,
 ghost use Rattle.hd_calls.specs.Satisfies.{accepts, is_true_of};
 ghost use Rattle.hd_calls.specs.SearchKeys.{refuses_from, is_of_key, is_comparison_past};
 ghost use Rattle.hd_ssa.specs.LeastKeys.{refuses_below, bound_of};
+ghost use Rattle.hd_ssa.specs.EqualKeys.{is_equality, equal_to};
 
 use hd_calls::Operator;
 use hd_dbd::{Field, Key, Name8, SegType, Status, compare_keys};
@@ -113,6 +114,17 @@ impl<'a> Comparison<'a> {
         }
     }
 
+    /// The value, where the comparison asks that the whole key is equal to it.
+    pub fn equal_to(&self, key: Key) -> Option<&'a [u8]>
+        ensures { option_copied result ≡ equal_to key self.now }
+    {
+        if self.is_of_key(key) && is_equality(self.operator) {
+            Some(self.value)
+        } else {
+            None
+        }
+    }
+
     /// How the field of a segment stands to the value.
     fn order_of(&self, bytes: &[u8]) -> Ordering
         ensures { result ≡ slice_cmp nat_cmp (part_of bytes.now self.now.field.start self.now.field.length) self.now.value }
@@ -128,6 +140,13 @@ impl<'a> Comparison<'a> {
         let field = self.field;
         field.start == key.start && field.length == key.length
     }
+}
+
+/// Whether an operator accepts the value alone.
+fn is_equality(operator: Operator) -> bool
+    ensures { result ≡ is_equality operator }
+{
+    matches!(operator, Operator::Equal)
 }
 
 /// The operator of two bytes.

@@ -1,4 +1,4 @@
-ghost use Rattle.std.specs.Prelude.{◌≡◌, ◌∷◌, [], Ok, Err, Some, None, IfErr, OnOk, option_map, option_copied};
+ghost use Rattle.std.specs.Prelude.{◌≡◌, ◌∷◌, [], Ok, Err, Some, None, IfErr, OnOk, option_map, option_and_then, option_copied};
 ghost use Rattle.std.specs.List.{list_any, list_all};
 ghost use Rattle.hd_calls.specs.Ssas.{read_qualification};
 ghost use Rattle.hd_calls.specs.Satisfies.{is_true_of};
@@ -6,6 +6,7 @@ ghost use Rattle.hd_calls.specs.SearchKeys.{are_groups_past};
 ghost use Rattle.hd_ssa.specs.Texts.{groups_in, single_of};
 ghost use Rattle.hd_ssa.specs.Questions.{passes};
 ghost use Rattle.hd_ssa.specs.LeastKeys.{bound_of, greater_of, lesser_of, least_bound};
+ghost use Rattle.hd_ssa.specs.EqualKeys.{equal_to};
 
 use crate::comparison::{Comparison, ComparisonRead};
 use crate::question::Question;
@@ -86,6 +87,16 @@ impl<'a> Qualification<'a> {
         match &self.single {
             Some(comparison) => comparison.bound_of(key),
             None => least_bound(self.segment, self.text, key),
+        }
+    }
+
+    /// The value of the only comparison, where that asks that the whole key is equal to it.
+    pub fn key_asked(&self, key: Key) -> Option<&'a [u8]>
+        ensures { option_copied result ≡ option_and_then (λ c. equal_to key c) (single_of self.now) }
+    {
+        match &self.single {
+            Some(comparison) => comparison.equal_to(key),
+            None => None,
         }
     }
 }

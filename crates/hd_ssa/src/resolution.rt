@@ -6,6 +6,7 @@ ghost use Rattle.hd_calls.specs.Ssas.{first_inserted_head, unqualified, heads_su
 ghost use Rattle.hd_calls.specs.Satisfies.{qualifies};
 ghost use Rattle.hd_calls.specs.SearchKeys.{is_key_past};
 ghost use Rattle.hd_ssa.specs.LeastKeys.{least_key, NoneQualifiesBelow};
+ghost use Rattle.hd_ssa.specs.EqualKeys.{key_asked, QualifiesByKey};
 ghost use Rattle.hd_ssa.specs.Named.{heads_in, code_below, codes_down, resolve_named};
 ghost use Rattle.hd_ssa.specs.AtOnce.{IsGet};
 
@@ -104,6 +105,18 @@ impl<'a> ResolvedSsa<'a> {
     {
         match &self.qualification {
             Some(qualification) => qualification.least_bound(key),
+            None => None,
+        }
+    }
+
+    /// The value of the key that is asked for, where the qualification is one comparison, EQ of the whole key: a segment has it just where it has
+    /// that key. It is part of the call's text.
+    pub fn key_asked(&self, key: Key) -> Option<&'a [u8]>
+        ensures value { option_copied result ≡ key_asked key self.now }
+        ensures qualifies { IfSome result (λ v. QualifiesByKey key self.now v.now) }
+    {
+        match &self.qualification {
+            Some(qualification) => qualification.key_asked(key),
             None => None,
         }
     }
