@@ -1,9 +1,9 @@
 -- A search of GU for the first row that passes begins at a root.
 use Rattle.std.proofs.Common.{◌≡◌, ℕ, ◌+◌, ◌<◌, ◌≤◌, List, [], ◌∷◌, ◌++◌, length, Bool, true, false, Option, Some, None, refl, sym, ap, subst, ◌∙◌, arith, inl, inr}
-use Rattle.std.specs.Prelude.{nat_lt, unwrap_or, option_map, IfSome}
+use Rattle.std.specs.Prelude.{◌&&◌, nat_lt, unwrap_or, option_map, IfSome}
 use Rattle.std.specs.Option.{option_map_or}
 use Rattle.std.specs.List.{list_all}
-use Rattle.std.proofs.lemmas.Bool.{cases_Bool, cond-true, cond-false, lt-ltb, le-ltb, eq-eqb, false≢true}
+use Rattle.std.proofs.lemmas.Bool.{cases_lt, cases_Bool, cond-true, cond-false, lt-ltb, le-ltb, eq-eqb, false≢true}
 use Rattle.std.proofs.lemmas.List.{length-append}
 use Rattle.hd_dbd.specs.Hierarchy.{Database}
 use Rattle.hd_dbd.specs.Paths.{row_at, parent_row, path_of}
@@ -22,7 +22,9 @@ use Rattle.hd_changes.proofs.RootRows.{follow-lesser, roots-alone}
 use Rattle.hd_calls.specs.Ssas.{Ssa}
 use Rattle.hd_calls.specs.Satisfies.{is_named}
 use Rattle.hd_calls.proofs.Searches.{skipped}
-use Rattle.hd_calls.specs.Admits.{NonePass, AreRowsOf}
+use Rattle.hd_calls.specs.Admits.{NonePass, AreRowsOf, admits, all_admitted}
+use Rattle.hd_dbd.proofs.RowPaths.{path_follows}
+use Rattle.hd_get.specs.Descents.{LeadsBelow}
 use Rattle.hd_calls.proofs.OnPaths.{root_code}
 use Rattle.hd_calls.proofs.SearchTwins.{earlier_roots_fail}
 use Rattle.hd_get.specs.Searches.{LeadsWithin, path_within, parent_path}
@@ -125,24 +127,37 @@ module _ (d : Database) (v : VolumeState) (f : Forest Placed) (H : HoldsPlaced d
 
   -- where none is named before a row, the search may begin there
   pub begins_at : (test : ℕ → Bool) (ssas : List Ssa) → AreNamed test d.types (rows_of f) ssas → 0 < length ssas → (path : List ℕ) (number : ℕ)
-      → NonePass (is_named d.types (rows_of f) ssas) 0 number → LeadsWithin d.types (links_of d.types v) f 0 (length (rows_of f)) path number → BeginsAt test d v f path
+      → NonePass (is_named d.types (rows_of f) ssas) 0 number → LeadsWithin d.types (links_of d.types v) f 0 (length (rows_of f)) path number → BeginsAt test d v f ssas path false
   begins_at test ssas named some path number none leads = record {
     number = number;
     same = skipped test 0 number (length (rows_of f)) (omega arith) (λ j low high. unnamed test ssas named some j (none j low high));
     leads = leads;
+    named = λ e. absurd (false≢true e);
   }
 
   -- so it may where a path goes down from a row before which none is named
   pub begins_below : (test : ℕ → Bool) (ssas : List Ssa) → AreNamed test d.types (rows_of f) ssas → 0 < length ssas → (i : ℕ) → NonePass (is_named d.types (rows_of f) ssas) 0 i
-      → (path : List ℕ) (number : ℕ) → i ≤ number → NonePass (is_named d.types (rows_of f) ssas) i number → number < length (rows_of f) → path ≡ path_at d.types f number → BeginsAt test d v f path
-  begins_below test ssas named some i before path number later none within is =
-      begins_at test ssas named some path number
-      (λ j low high. elim (cases_lt j i) [
-        | inl early ↦ before j low early
-        | inr late ↦ none j late high
-      ])
-      (record {
-        holds = H.records;
-        ends = ends_whole d.types f number;
-        is = is ∙ sym (cond-true (nat_lt number (length (rows_of f))) (path_at d.types f number) [] (lt-ltb number (length (rows_of f)) within));
-      })
+      → (path : List ℕ) (told : Bool) → (L : LeadsBelow d v f ssas i told path) → (known : Bool) → (known ≡ true → (told ≡ true) × (all_admitted d.types (rows_of f) ssas i ≡ true))
+      → BeginsAt test d v f ssas path known
+  begins_below test ssas named some i before path told L known tells = record {
+    number = L.number;
+    same = skipped test 0 L.number (length (rows_of f)) (omega arith) (λ j low high. unnamed test ssas named some j (elim (cases_lt j i) [
+      | inl early ↦ before j low early
+      | inr late ↦ L.none j late high
+    ]));
+    leads = record {
+      holds = H.records;
+      ends = ends_whole d.types f L.number;
+      is = L.row.is ∙ sym (cond-true (nat_lt L.number (length (rows_of f))) (path_at d.types f L.number) [] (lt-ltb L.number (length (rows_of f)) L.row.within));
+    };
+    named = λ e. (L.row.within, (let T = tells e in L.named T.0 T.1));
+  }
+
+  -- the path of a root is the root alone
+  pub root_admitted : (ssas : List Ssa) (key : List ℕ) → root_from d.types (rows_of f) key < length (rows_of f) → admits d.types (rows_of f) ssas (root_from d.types (rows_of f) key) ≡ true
+      → all_admitted d.types (rows_of f) ssas (root_from d.types (rows_of f) key) ≡ true
+  root_admitted ssas key within own =
+      let n : ℕ = root_from d.types (rows_of f) key in
+      let alone : path_of d.types (rows_of f) n ≡ n ∷ []
+      = path_follows d.types (rows_of f) n ∙ ap (λ (o : Option ℕ). option_map_or (λ p. path_of d.types (rows_of f) p) o [] ++ n ∷ []) ((first_root key).alone within) in
+      ap (λ (xs : List ℕ). list_all (λ k. admits d.types (rows_of f) ssas k) xs) alone ∙ ap (λ (b : Bool). b && true) own

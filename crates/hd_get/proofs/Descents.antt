@@ -1,12 +1,20 @@
 -- Going down by the keys that arguments ask for passes over no row that they name.
 use Rattle.std.proofs.Common.{◌≡◌, ℕ, zero, suc, ◌+◌, ◌-◌, ◌<◌, ◌≤◌, List, [], ◌∷◌, ◌++◌, length, Bool, true, false, Option, Some, None, refl, sym, ap, ap₂, subst, ◌∙◌, arith, inl, inr}
-use Rattle.std.specs.Prelude.{◌==◌, ◌&&◌, ◌||◌, not, cond, slice_index_or, unwrap_or}
+use Rattle.std.specs.Prelude.{◌==◌, ◌&&◌, ◌||◌, not, cond, map, slice_index, slice_index_or, unwrap_or, option_and_then}
 use Rattle.std.specs.Option.{option_eq, option_map_or}
-use Rattle.std.proofs.lemmas.Bool.{cases_lt, cases_Bool, and_parts, and_from, or_cases, or_right, eq-eqb, eqb-true, cond-true, cond-false}
+use Rattle.std.specs.List.{list_all}
+use Rattle.std.specs.Ordering.{nat_cmp, is_eq}
+use Rattle.std.specs.Cmp.Lexicographic.{slice_cmp, bytes_decides}
+use Rattle.std.proofs.lemmas.List.Folds.{list_all-append}
+use Rattle.std.proofs.lemmas.Map.Text.{is_eq-slice_cmp}
+use Rattle.std.proofs.lemmas.Bool.{cases_lt, cases_Bool, and_parts, and_from, or_cases, or_right, eq-eqb, eqb-true, cond-true, cond-false, false≢true}
 use Rattle.hd_dbd.specs.Types.{SegmentType}
-use Rattle.hd_dbd.specs.Hierarchy.{Database, parent_of}
+use Rattle.hd_dbd.specs.declared.hierarchy.Key.{Key}
+use Rattle.hd_dbd.specs.Hierarchy.{Database, parent_of, part_of, type_of}
 use Rattle.hd_dbd.specs.Segment.{Segment}
-use Rattle.hd_dbd.specs.Paths.{row_at, parent_row, end_of, have_one_parent, is_twin}
+use Rattle.hd_dbd.specs.Paths.{row_at, parent_row, path_of, end_of, have_one_parent, is_twin}
+use Rattle.hd_dbd.specs.Rows.{key_of}
+use Rattle.hd_dbd.proofs.RowPaths.{path_follows}
 use Rattle.hd_dbd.specs.Searches.{first_from}
 use Rattle.hd_dbd.specs.Forest.{Forest}
 use Rattle.hd_dbd.proofs.LevelLaw.{typed}
@@ -21,15 +29,18 @@ use Rattle.hd_forest.specs.Walks.{tip}
 use Rattle.hd_forest.specs.Rows.{IsOnRow}
 use Rattle.hd_forest.specs.Twins.{is_key_below}
 use Rattle.hd_calls.specs.Ssas.{Ssa, target_code}
-use Rattle.hd_calls.specs.Satisfies.{is_named}
+use Rattle.hd_calls.specs.Satisfies.{qualifies, is_last_so, meets, is_named}
 use Rattle.hd_calls.specs.Gets.{first_child}
-use Rattle.hd_calls.specs.Admits.{NonePass, AreRowsOf, AreOnWay, Descend, admits, is_on_way}
+use Rattle.hd_calls.specs.Admits.{NonePass, AreRowsOf, AreOnWay, Descend, meets_own, admits, all_admitted, is_on_way}
+use Rattle.hd_calls.proofs.Admitting.{named_admitted}
 use Rattle.hd_calls.proofs.Searches.{least_some}
 use Rattle.hd_calls.proofs.OnPaths.{levels_are, sequence_is}
 use Rattle.hd_calls.proofs.SearchTwins.{earlier_twins_fail}
 use Rattle.hd_calls.proofs.SearchWays.{first_children, down_of, on_way_all}
 use Rattle.hd_get.specs.Asking.{least_key_of, is_from, address_from}
-use Rattle.hd_get.specs.Descents.{least_child_key, IsChildFrom}
+use Rattle.hd_ssa.proofs.EqualKeys.{qualifies_by_key}
+use Rattle.hd_ssa.specs.EqualKeys.{key_asked}
+use Rattle.hd_get.specs.Descents.{least_child_key, IsChildFrom, key_asked_of, asks_for, ask_for, LeadsBelow}
 use Rattle.hd_get.proofs.Spans.{child_is, parent_span, one_option}
 use Rattle.hd_get.proofs.Climbs.{path_is}
 use Rattle.hd_get.proofs.Grounds.{held_rows, grounds, tip_code}
@@ -45,13 +56,12 @@ on_way_at types t (suc n) (a ∷ ssas) x all within is = on_way_at types t n ssa
 -- what a least key of a child type tells
 pub child_key_parts : (types : List SegmentType) (ssas : List Ssa) (above code : ℕ) (key : List ℕ) → least_child_key types ssas above code ≡ Some key
     → (parent_of types code ≡ Some above) × (least_key_of types ssas code ≡ Some key)
-child_key_parts types ssas above code key is = elim (cases_Bool (option_eq (λ a b. a == b) (parent_of types code) (Some above))) [
-  | inl yes ↦ (one_option (parent_of types code) (Some above) yes, sym (cond-true _ (least_key_of types ssas code) None yes) ∙ is)
-  | inr no ↦ absurd (none (sym (cond-false _ (least_key_of types ssas code) None no) ∙ is))
-]
+child_key_parts types ssas above code key is = by (option_eq (λ a b. a == b) (parent_of types code) (Some above)) refl is
   where
-    none : None ≡ Some key → ⊥
-    none e = cc
+    by : (b : Bool) → option_eq (λ a b. a == b) (parent_of types code) (Some above) ≡ b → cond b (least_key_of types ssas code) None ≡ Some key
+        → (parent_of types code ≡ Some above) × (least_key_of types ssas code ≡ Some key)
+    by true e h = (one_option (parent_of types code) (Some above) e, h)
+    by false e h = cc
 
 module _ (types : List SegmentType) (rows : List Segment) (over : AreRowsOf types rows) (i code : ℕ) (within : i < length rows) where
   -- the type is a child type of the row's
@@ -149,11 +159,11 @@ module _ (types : List SegmentType) (rows : List Segment) (i code : ℕ) (within
 
 -- the path to the first child from a key on, where that has an address
 module _ (types : List SegmentType) (f : Forest Placed) (i code : ℕ) (within : i < length (rows_of f)) (key : List ℕ) (first : ℕ) (child : first_child types (rows_of f) code i ≡ Some first) where
-  pub child_from : (a : ℕ) → 0 < a → a ≡ address_from types f key first → (j : ℕ) × IsChildFrom types f key i code j × (path_at types f i ++ a ∷ [] ≡ path_at types f j)
+  pub child_from : (a : ℕ) → 0 < a → a ≡ address_from types f key first → (j : ℕ) × IsChildFrom types f key i code j × (path_at types f i ++ a ∷ [] ≡ path_at types f j) × (a ≡ address_at f j)
   child_from a some is = by (first_from (is_from types (rows_of f) key first) first (length (rows_of f))) refl is
     where
       by : (o : Option ℕ) → first_from (is_from types (rows_of f) key first) first (length (rows_of f)) ≡ o → a ≡ option_map_or (λ j. address_at f j) o 0
-          → (j : ℕ) × IsChildFrom types f key i code j × (path_at types f i ++ a ∷ [] ≡ path_at types f j)
+          → (j : ℕ) × IsChildFrom types f key i code j × (path_at types f i ++ a ∷ [] ≡ path_at types f j) × (a ≡ address_at f j)
       by None e z = absurd (omega arith)
       by (Some j) e z =
           (let P = from_parts types (rows_of f) i code within key first j child e in (
@@ -162,16 +172,65 @@ module _ (types : List SegmentType) (f : Forest Placed) (i code : ℕ) (within :
             ap (λ x. path_at types f i ++ x ∷ []) z
                 ∙ ap (λ (o : Option ℕ). option_map_or (λ q. path_at types f q) o [] ++ address_at f j ∷ []) (sym P.parent)
                 ∙ sym (path_is types f j),
+            z,
           ))
+
+-- ---- arguments that ask for a key
+
+-- of an argument that asks for a key, a row of its type with that key meets it
+meets_key : (types : List SegmentType) (rows : List Segment) (j : ℕ) (a : Ssa) (key : List ℕ) → (row_at rows j).code ≡ a.code → key_of types (row_at rows j) ≡ key → asks_for types key a ≡ true
+    → meets types rows a j ≡ true
+meets_key types rows j a key own is asks =
+    let P = and_parts (not a.commands.last) _ asks in
+    ap (λ b. qualifies a (row_at rows j) && (b || a.code == 1 || is_last_so types rows a j)) P.0
+    ∙ ap (λ b. b && true) (by_key (key_asked_of types a) refl P.1)
+  where
+    by_type : (v : List ℕ) (o : Option SegmentType) → type_of types a.code ≡ o → option_and_then (λ t. option_and_then (λ k. key_asked k a) t.key) o ≡ Some v
+        → option_map_or (λ t. option_map_or (λ k. part_of (row_at rows j).bytes k.start k.length) t.key []) o [] ≡ v → qualifies a (row_at rows j) ≡ true
+    by_type v None e h same = cc
+    by_type v (Some t) e h same = by_place t.key h same
+      where
+        by_place : (o : Option Key) → option_and_then (λ k. key_asked k a) o ≡ Some v → option_map_or (λ k. part_of (row_at rows j).bytes k.start k.length) o [] ≡ v → qualifies a (row_at rows j) ≡ true
+        by_place None h same = cc
+        by_place (Some k) h same = qualifies_by_key k a v h (row_at rows j) same
+
+    by_key : (o : Option (List ℕ)) → key_asked_of types a ≡ o → option_map_or (λ v. is_eq (slice_cmp nat_cmp v key)) o false ≡ true → qualifies a (row_at rows j) ≡ true
+    by_key None e h = cc
+    by_key (Some v) e h =
+        (let same : v ≡ key = (bytes_decides v key).0 (sym (is_eq-slice_cmp v key) ∙ h) in
+        by_type v (type_of types a.code) refl e
+        (ap (λ (o : Option SegmentType). option_map_or (λ t. option_map_or (λ k. part_of (row_at rows j).bytes k.start k.length) t.key []) o []) (ap (type_of types) (sym own)) ∙ is ∙ sym same))
+
+-- of arguments that ask for a key of a type, a row of that type with that key is admitted
+pub admits_key : (types : List SegmentType) (rows : List Segment) (j code : ℕ) (ssas : List Ssa) (key : List ℕ) → (row_at rows j).code ≡ code → key_of types (row_at rows j) ≡ key
+    → ask_for types ssas code key ≡ true → admits types rows ssas j ≡ true
+admits_key types rows j code [] key own is asks = refl
+admits_key types rows j code (a ∷ ssas) key own is asks =
+    let P = and_parts (not (a.code == code) || asks_for types key a) _ asks in
+    and_from _ _ (by_code (a.code == code) refl P.0) (admits_key types rows j code ssas key own is P.1)
+  where
+    by_code : (b : Bool) → (a.code == code) ≡ b → (not b || asks_for types key a) ≡ true → meets_own types rows j a ≡ true
+    by_code true e h = ap (λ x. not (a.code == (row_at rows j).code) || x) (meets_key types rows j a key (own ∙ sym (eqb-true a.code code e)) is h) ∙ or_true (not (a.code == (row_at rows j).code))
+      where
+        or_true : (b : Bool) → (b || true) ≡ true
+        or_true true = refl
+        or_true false = refl
+    by_code false e h = ap (λ b. not b || meets types rows a j) (ap (λ c. a.code == c) own ∙ e)
+
+-- the argument at a place, by its code
+pub code_at_place : (n : ℕ) (ssas : List Ssa) (x : Ssa) → n < length ssas → x ≡ slice_index_or ssas n x → slice_index (map (λ a. a.code) ssas) n ≡ x.code
+code_at_place n [] x within is = absurd (omega arith)
+code_at_place zero (a ∷ ssas) x within is = ap (λ (y : Ssa). y.code) (sym is)
+code_at_place (suc n) (a ∷ ssas) x within is = code_at_place n ssas x (omega arith) is
 
 -- ---- one level further down
 
--- A path went down from row n to a child of a type, and none that the SSAs name is before it.
-pub record IsFurther (d : Database) (v : VolumeState) (f : Forest Placed) (ssas : List Ssa) (n code : ℕ) (path : List ℕ) (j : ℕ) : Type 0 where
-  pub later : n ≤ j
-  pub none : NonePass (is_named d.types (rows_of f) ssas) n j
-  pub row : IsOnRow d.types (links_of d.types v) f path j
-  pub code_is : (links_of d.types v).code (tip path) ≡ code
+-- A path goes down from row i to a later row, and none that the SSAs name is before that; where so much is told, what is on the way is admitted.
+pub record HasCome (d : Database) (v : VolumeState) (f : Forest Placed) (ssas : List Ssa) (i : ℕ) (told : Bool) (path : List ℕ) (number : ℕ) : Type 0 where
+  pub later : i ≤ number
+  pub none : NonePass (is_named d.types (rows_of f) ssas) i number
+  pub row : IsOnRow d.types (links_of d.types v) f path number
+  pub admitted : told ≡ true → all_admitted d.types (rows_of f) ssas i ≡ true → all_admitted d.types (rows_of f) ssas number ≡ true
 
 module _ (d : Database) (v : VolumeState) (of : IsVolumeOf d v) (f : Forest Placed) (ssas : List Ssa) (descend : Descend d.types None ssas) (n above : ℕ) (path : List ℕ)
     (on : IsOnRow d.types (links_of d.types v) f path n) (is_above : (links_of d.types v).code (tip path) ≡ above) (code : ℕ) (key : List ℕ) (least : least_child_key d.types ssas above code ≡ Some key) where
@@ -181,22 +240,63 @@ module _ (d : Database) (v : VolumeState) (of : IsVolumeOf d v) (f : Forest Plac
       let G = grounds d v f of on.holds in
       (child_key_parts d.types ssas above code key least).0 ∙ ap (λ (c : ℕ). Some c) (sym is_above ∙ tip_code d.types (links_of d.types v) f G path n on)
 
-  pub further : (place : ℕ) (x : Ssa) → place < length ssas → x ≡ slice_index_or ssas place x → code ≡ x.code → (new : List ℕ)
-      → (J : (j : ℕ) × IsChildFrom d.types f key n code j × (new ≡ path_at d.types f j)) → IsFurther d v f ssas n code new J.0
-  further place x within is own new J =
-      let G = grounds d v f of on.holds in
-      let over = held_rows d v f of on.holds in
-      let way : is_on_way d.types (target_code ssas) code ≡ true
-      = subst (λ c. is_on_way d.types (target_code ssas) c ≡ true) (sym own)
-      (on_way_at d.types (target_code ssas) place ssas x (on_way_all d.types (rows_of f) ssas (record { over = over; descend = descend })) within is) in
-      let C = J.1 in
-      let P = from_parts d.types (rows_of f) n code on.within key C.first J.0 C.is_first C.from in
-      let row : IsOnRow d.types (links_of d.types v) f new J.0 = record { holds = on.holds; within = P.within; is = J.2 } in
-      let low : n < C.first = P.later in
-      let high : C.first ≤ J.0 = P.behind in
-      record {
-        later = omega arith;
-        none = none_below d.types (rows_of f) n code on.within key C.first J.0 C.is_first C.from over ssas way parent_is (child_key_parts d.types ssas above code key least).1;
-        row = row;
-        code_is = tip_code d.types (links_of d.types v) f G new J.0 row ∙ P.code_is;
-      }
+  module _ (new : List ℕ) (j : ℕ) (C : IsChildFrom d.types f key n code j) (new_is : new ≡ path_at d.types f j) where
+    pub new_row : IsOnRow d.types (links_of d.types v) f new j
+    new_row = record { holds = on.holds; within = (from_parts d.types (rows_of f) n code on.within key C.first j C.is_first C.from).within; is = new_is }
+
+    pub new_code : (links_of d.types v).code (tip new) ≡ code
+    new_code =
+        let G = grounds d v f of on.holds in
+        tip_code d.types (links_of d.types v) f G new j new_row ∙ (from_parts d.types (rows_of f) n code on.within key C.first j C.is_first C.from).code_is
+
+    pub further : (place : ℕ) (x : Ssa) → place < length ssas → x ≡ slice_index_or ssas place x → code ≡ x.code → (i : ℕ) (told equal : Bool) → HasCome d v f ssas i told path n
+        → (equal ≡ true → key_of d.types (row_at (rows_of f) j) ≡ key) → HasCome d v f ssas i ((told && equal) && ask_for d.types ssas code key) new j
+    further place x within is own i told equal come key_is =
+        let over = held_rows d v f of on.holds in
+        let way : is_on_way d.types (target_code ssas) code ≡ true
+        = subst (λ c. is_on_way d.types (target_code ssas) c ≡ true) (sym own)
+        (on_way_at d.types (target_code ssas) place ssas x (on_way_all d.types (rows_of f) ssas (record { over = over; descend = descend })) within is) in
+        let P = from_parts d.types (rows_of f) n code on.within key C.first j C.is_first C.from in
+        let low : n < C.first = P.later in
+        let high : C.first ≤ j = P.behind in
+        let before : i ≤ n = come.later in
+        record {
+          later = omega arith;
+          none = λ k a b. elim (cases_lt k n) [
+            | inl early ↦ come.none k a early
+            | inr late ↦ none_below d.types (rows_of f) n code on.within key C.first j C.is_first C.from over ssas way parent_is (child_key_parts d.types ssas above code key least).1 k late b
+          ];
+          row = new_row;
+          admitted = λ e all. (
+              let T = three told equal (ask_for d.types ssas code key) e in
+              let follows : path_of d.types (rows_of f) j ≡ path_of d.types (rows_of f) n ++ j ∷ []
+              = path_follows d.types (rows_of f) j ∙ ap (λ (o : Option ℕ). option_map_or (λ p. path_of d.types (rows_of f) p) o [] ++ j ∷ []) P.parent in
+              ap (list_all (λ k. admits d.types (rows_of f) ssas k)) follows
+              ∙ list_all-append (λ k. admits d.types (rows_of f) ssas k) (path_of d.types (rows_of f) n) (j ∷ [])
+              ∙ and_from _ _ (come.admitted T.0 all) (and_from _ _ (admits_key d.types (rows_of f) j code ssas key P.code_is (key_is T.1) T.2) refl));
+        }
+      where
+        three : (a b c : Bool) → ((a && b) && c) ≡ true → (a ≡ true) × (b ≡ true) × (c ≡ true)
+        three true true true e = (refl, refl, refl)
+        three true true false e = cc
+        three true false c e = cc
+        three false b c e = cc
+
+-- behind the last argument the row is named, where all on its path are admitted
+pub come_to_last : (d : Database) (v : VolumeState) → IsVolumeOf d v → (f : Forest Placed) (ssas : List Ssa) → Descend d.types None ssas → (i : ℕ) (told : Bool) (path : List ℕ) (n : ℕ)
+    → HasCome d v f ssas i told path n → (links_of d.types v).code (tip path) ≡ target_code ssas → LeadsBelow d v f ssas i told path
+come_to_last d v of f ssas descend i told path n come code =
+    let G = grounds d v f of come.row.holds in
+    let own : (row_at (rows_of f) n).code ≡ target_code ssas = sym (tip_code d.types (links_of d.types v) f G path n come.row) ∙ code in
+    record {
+      number = n;
+      later = come.later;
+      none = come.none;
+      row = come.row;
+      named = λ e all. named_admitted d.types (rows_of f) ssas n (record { over = held_rows d v f of come.row.holds; descend = descend }) come.row.within
+          ∙ and_from _ _ (eq-eqb (row_at (rows_of f) n).code (target_code ssas) own) (come.admitted e all);
+    }
+
+-- on the way nothing is told
+pub come_so_far : (d : Database) (v : VolumeState) (f : Forest Placed) (ssas : List Ssa) (i : ℕ) (told : Bool) (path : List ℕ) (n : ℕ) → HasCome d v f ssas i told path n → LeadsBelow d v f ssas i false path
+come_so_far d v f ssas i told path n come = record { number = n; later = come.later; none = come.none; row = come.row; named = λ e all. absurd (false≢true e) }

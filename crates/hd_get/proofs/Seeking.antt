@@ -34,15 +34,16 @@ use Rattle.hd_position.specs.Kept.{Kept, AreRowsOn, Ascend, path_passed, row_on}
 use Rattle.hd_position.specs.Gets.{AreTaken}
 use Rattle.hd_position.proofs.Rising.{row_on_map}
 use Rattle.hd_calls.specs.Admits.{Descend, AreRowsOf}
-use Rattle.std.proofs.lemmas.Bool.{ne_eqb, and_parts}
+use Rattle.std.proofs.lemmas.Bool.{ne_eqb, and_parts, and_from, eqb-true, cond-true, lt-ltb}
 use Rattle.std.proofs.lemmas.List.{length-map}
 use Rattle.hd_calls.proofs.SearchLevels.{path_length}
 use Rattle.hd_calls.proofs.OnPaths.{Spans, on_path_of}
 use Rattle.hd_get.specs.Searches.{LeadsWithin}
-use Rattle.hd_get.specs.Starts.{IsKeptIn, BeginsUnique, LeadsToNext, LeadsToStart, StartsBelow}
+use Rattle.hd_get.specs.Starts.{IsKeptIn, AreNamed, BeginsUnique, LeadsToNext, LeadsToStart, StartsBelow}
 use Rattle.hd_get.specs.Gets.{GetCall, IsPositionIn, HasPosition, answer_to, levels_taken}
 use Rattle.hd_get.specs.Found.{satisfies_get, sought_by, LeadsToSought, IsBeginning, status_between, goes_back}
 use Rattle.hd_get.proofs.Starts.{parent_address}
+use Rattle.hd_get.proofs.Turns.{here_from}
 use Rattle.hd_get.proofs.Grounds.{held_rows}
 use Rattle.hd_get.proofs.KeptRows.{last_passed, path_row_is, on_path_level}
 use Rattle.hd_get.proofs.TakenLevels.{rows_taken, levels_ascend, satisfying_code}
@@ -100,14 +101,33 @@ module _ (d : Database) (v : VolumeState) (f : Forest Placed) (k : Kept) (q : Po
   something : (start : ℕ × List ℕ) (o : Option ℕ) → Some start ≡ None → o ≡ None
   something start o z = cc
 
-  pub unique_begins : (path : List ℕ) → BeginsUnique d v ssas path → IsBeginning d v f (record { pcb = pcb; kind = Unique; hold = hold; ssas = ssas }) q (Some (0, path))
-  unique_begins path begins =
-      let M = begins f (satisfies_get (call_of Unique) d.types (rows_of f)) (λ j. true) at.sound at.holds
-      (λ j some passes. (and_parts (is_named d.types (rows_of f) ssas j) _ (sym (satisfies_named (record { types = d.types; pcb = pcb }) (rows_of f) ssas j some) ∙ passes)).0) in
+  -- a row that satisfies a GU with arguments is named
+  satisfying_named : AreNamed (satisfies_get (call_of Unique) d.types (rows_of f)) d.types (rows_of f) ssas
+  satisfying_named j some passes = (and_parts (is_named d.types (rows_of f) ssas j) _ (sym (satisfies_named (record { types = d.types; pcb = pcb }) (rows_of f) ssas j some) ∙ passes)).0
+
+  pub unique_begins : (path : List ℕ) (told : Bool) → BeginsUnique d v ssas path told → IsBeginning d v f (record { pcb = pcb; kind = Unique; hold = hold; ssas = ssas }) q (Some (0, path))
+  unique_begins path told begins =
+      let M = begins f (satisfies_get (call_of Unique) d.types (rows_of f)) at.sound at.holds satisfying_named in
       record {
         none = something (0, path) (sought_by (call_of Unique) d.types (rows_of f) q);
-        some = record { number = M.number; same = M.same; leads = record { holds = at.holds.records; ends = M.ends; is = M.is } };
+        some = record { number = M.number; same = M.same; leads = M.leads };
       }
+
+  -- where the row is known to be named, and its type may be read, it is the one
+  pub unique_found : (path : List ℕ) (told : Bool) → BeginsUnique d v ssas path told → told ≡ true → 0 < length ssas
+      → may (record { types = d.types; pcb = pcb }) gives_get (target_code ssas) ≡ true
+      → Some path ≡ option_map (λ i. path_at d.types f i) (sought_by (call_of Unique) d.types (rows_of f) q)
+  unique_found path told begins told_ some reads =
+      let M = begins f (satisfies_get (call_of Unique) d.types (rows_of f)) at.sound at.holds satisfying_named in
+      let N = M.named told_ in
+      let code : (row_at (rows_of f) M.number).code ≡ target_code ssas
+      = eqb-true (row_at (rows_of f) M.number).code (target_code ssas) (and_parts ((row_at (rows_of f) M.number).code == target_code ssas) _ N.1).0 in
+      let passes : satisfies_get (call_of Unique) d.types (rows_of f) M.number ≡ true
+      = satisfies_named (record { types = d.types; pcb = pcb }) (rows_of f) ssas M.number some
+      ∙ and_from _ _ N.1 (ap (may (record { types = d.types; pcb = pcb }) gives_get) code ∙ reads) in
+      ap (λ (p : List ℕ). Some p) (M.leads.is ∙ cond-true (nat_lt M.number (length (rows_of f))) (path_at d.types f M.number) [] (lt-ltb M.number (length (rows_of f)) N.0))
+      ∙ sym (ap (option_map (λ i. path_at d.types f i))
+      (M.same ∙ here_from (satisfies_get (call_of Unique) d.types (rows_of f)) M.number M.number (length (rows_of f)) (omega arith) N.0 (λ j a b. absurd (omega arith)) passes))
 
   pub next_begins : (path : List ℕ) → LeadsToNext d v ssas k path → IsBeginning d v f (record { pcb = pcb; kind = Next; hold = hold; ssas = ssas }) q (Some (0, path))
   next_begins path leads = record {

@@ -1,8 +1,13 @@
 -- Going down from a root by the keys that segment search arguments ask for.
-use Rattle.std.specs.Prelude.{◌≡◌, ℕ, ◌≤◌, List, length, Bool, true, false, ◌==◌, cond, Option, Some, None}
-use Rattle.std.specs.Option.{option_eq}
+use Rattle.std.specs.Prelude.{◌≡◌, ℕ, ◌≤◌, List, [], ◌∷◌, length, Bool, true, false, not, ◌==◌, ◌&&◌, ◌||◌, cond, Option, Some, None, option_and_then}
+use Rattle.std.specs.Option.{option_eq, option_map_or}
+use Rattle.std.specs.List.{list_all}
+use Rattle.std.specs.Ordering.{nat_cmp, is_eq}
+use Rattle.std.specs.Cmp.Lexicographic.{slice_cmp}
 use Rattle.hd_dbd.specs.Types.{SegmentType}
-use Rattle.hd_dbd.specs.Hierarchy.{Database, parent_of}
+use Rattle.hd_dbd.specs.Hierarchy.{Database, parent_of, type_of}
+use Rattle.hd_dbd.specs.Paths.{row_at}
+use Rattle.hd_dbd.specs.Rows.{key_of}
 use Rattle.hd_dbd.specs.Searches.{first_from}
 use Rattle.hd_dbd.specs.Forest.{Forest}
 use Rattle.hd_volume.specs.Volumes.{VolumeState}
@@ -13,7 +18,8 @@ use Rattle.hd_forest.specs.Rows.{IsOnRow}
 use Rattle.hd_calls.specs.Ssas.{Ssa}
 use Rattle.hd_calls.specs.Satisfies.{is_named}
 use Rattle.hd_calls.specs.Gets.{first_child}
-use Rattle.hd_calls.specs.Admits.{NonePass}
+use Rattle.hd_calls.specs.Admits.{NonePass, admits, all_admitted}
+use Rattle.hd_ssa.specs.EqualKeys.{key_asked}
 use Rattle.hd_get.specs.Asking.{least_key_of, is_from}
 use Rattle.hd_get.specs.Searches.{IsPathOf}
 
@@ -27,22 +33,45 @@ pub record IsChildFrom (types : List SegmentType) (f : Forest Placed) (key : Lis
   pub is_first : first_child types (rows_of f) code i ≡ Some first
   pub from : first_from (is_from types (rows_of f) key first) first (length (rows_of f)) ≡ Some j
 
--- A path went down from row i to the first child whose key is not below a key, or stayed.
-pub record IsGoneBelow (types : List SegmentType) (f : Forest Placed) (key : List ℕ) (i code : ℕ) (old : List ℕ) (r : Bool) (new : List ℕ) : Type 0 where
-  pub below : r ≡ true → (j : ℕ) × IsChildFrom types f key i code j × (new ≡ path_at types f j)
-  pub stays : r ≡ false → new ≡ old
+-- A path went down from row i to the first child whose key is not below a key, and whether it is equal was told, or it stayed.
+pub record IsGoneBelow (types : List SegmentType) (f : Forest Placed) (key : List ℕ) (i code : ℕ) (old : List ℕ) (r : Option Bool) (new : List ℕ) : Type 0 where
+  pub below : (e : Bool) → r ≡ Some e → (j : ℕ) × IsChildFrom types f key i code j × (new ≡ path_at types f j) × (e ≡ true → key_of types (row_at (rows_of f) j) ≡ key)
+  pub stays : r ≡ None → new ≡ old
 
 -- so did it wherever it was that of a row
-abbrev pub GoesBelow : Database → VolumeState → List ℕ → ℕ → List ℕ → Bool → List ℕ → Type 0
+abbrev pub GoesBelow : Database → VolumeState → List ℕ → ℕ → List ℕ → Option Bool → List ℕ → Type 0
 GoesBelow d v key code old r new = (f : Forest Placed) (i : ℕ) → IsPathOf d v f old i → IsGoneBelow d.types f key i code old r new
 
--- The path is that of row i or of a later one, and from row i on none before it is named by the SSAs.
-pub record LeadsBelow (d : Database) (v : VolumeState) (f : Forest Placed) (ssas : List Ssa) (i : ℕ) (path : List ℕ) : Type 0 where
+-- the key that an argument asks its type's segments for, where it asks for that and nothing else
+abbrev pub key_asked_of : List SegmentType → Ssa → Option (List ℕ)
+key_asked_of types a = option_and_then (λ t. option_and_then (λ k. key_asked k a) t.key) (type_of types a.code)
+
+-- an argument asks for a key and nothing else, not even for the last of its twins
+abbrev pub asks_for : List SegmentType → List ℕ → Ssa → Bool
+asks_for types key a = not a.commands.last && option_map_or (λ v. is_eq (slice_cmp nat_cmp v key)) (key_asked_of types a) false
+
+-- so do those of a type
+abbrev pub ask_for : List SegmentType → List Ssa → ℕ → List ℕ → Bool
+ask_for types ssas code key = list_all (λ a. not (a.code == code) || asks_for types key a) ssas
+
+-- The path is that of row i or of a later one, and from row i on none before it is named by the SSAs. Where so much is told, it is named, if all
+-- on row i's path are admitted.
+pub record LeadsBelow (d : Database) (v : VolumeState) (f : Forest Placed) (ssas : List Ssa) (i : ℕ) (is_named_ : Bool) (path : List ℕ) : Type 0 where
   pub number : ℕ
   pub later : i ≤ number
   pub none : NonePass (is_named d.types (rows_of f) ssas) i number
   pub row : IsOnRow d.types (links_of d.types v) f path number
+  pub named : is_named_ ≡ true → all_admitted d.types (rows_of f) ssas i ≡ true → is_named d.types (rows_of f) ssas number ≡ true
 
 -- wherever a path was that of a row, it leads below that row
-abbrev pub DescendsTo : Database → VolumeState → List Ssa → List ℕ → List ℕ → Type 0
-DescendsTo d v ssas old new = (f : Forest Placed) (i : ℕ) → IsPathOf d v f old i → LeadsBelow d v f ssas i new
+abbrev pub DescendsTo : Database → VolumeState → List Ssa → List ℕ → Bool → List ℕ → Type 0
+DescendsTo d v ssas old told new = (f : Forest Placed) (i : ℕ) → IsPathOf d v f old i → LeadsBelow d v f ssas i told new
+
+-- the first SSA is the root's
+abbrev pub is_root_first : List Ssa → Bool
+is_root_first [] = false
+is_root_first (a ∷ ssas) = a.code == 1
+
+-- wherever the path is that of a row, the answer says whether that meets the arguments of its type
+abbrev pub AdmitsLast : Database → VolumeState → List Ssa → List ℕ → Bool → Type 0
+AdmitsLast d v ssas path r = (f : Forest Placed) (i : ℕ) → IsPathOf d v f path i → r ≡ admits d.types (rows_of f) ssas i

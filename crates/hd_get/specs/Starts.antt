@@ -80,16 +80,18 @@ LeadsToRoot d v key path =
 abbrev pub AreNamed : (ℕ → Bool) → List SegmentType → List Segment → List Ssa → Type 0
 AreNamed test types rows ssas = (j : ℕ) → 0 < length ssas → test j ≡ true → is_named types rows ssas j ≡ true
 
--- The search for the first row that passes a test may as well begin where the path leads: none before that passes.
-pub record BeginsAt (test : ℕ → Bool) (d : Database) (v : VolumeState) (f : Forest Placed) (path : List ℕ) : Type 0 where
+-- The search for the first row that passes a test may as well begin where the path leads: none before that passes. Where so much is told, there is
+-- a row, and the SSAs name it.
+pub record BeginsAt (test : ℕ → Bool) (d : Database) (v : VolumeState) (f : Forest Placed) (ssas : List Ssa) (path : List ℕ) (told : Bool) : Type 0 where
   pub number : ℕ
   pub same : first_from test 0 (length (rows_of f)) ≡ first_from test number (length (rows_of f))
   pub leads : LeadsWithin d.types (links_of d.types v) f 0 (length (rows_of f)) path number
+  pub named : told ≡ true → (number < length (rows_of f)) × (is_named d.types (rows_of f) ssas number ≡ true)
 
 -- in each forest that the sound volume holds, so may the search of GU, whose test only rows pass that the SSAs name
-abbrev pub BeginsUnique : Database → VolumeState → List Ssa → List ℕ → Type 0
-BeginsUnique d v ssas path =
-    (f : Forest Placed) (test : ℕ → Bool) → IsTrue v.is_sound → HoldsPlaced d v f → AreNamed test d.types (rows_of f) ssas → BeginsAt test d v f path
+abbrev pub BeginsUnique : Database → VolumeState → List Ssa → List ℕ → Bool → Type 0
+BeginsUnique d v ssas path told =
+    (f : Forest Placed) (test : ℕ → Bool) → IsTrue v.is_sound → HoldsPlaced d v f → AreNamed test d.types (rows_of f) ssas → BeginsAt test d v f ssas path told
 
 -- no root whose key is below a key has what the SSAs ask of it
 abbrev pub RefusesRootsBelow : List SegmentType → List Ssa → List ℕ → Type 0

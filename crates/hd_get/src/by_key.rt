@@ -1,4 +1,4 @@
-ghost use Rattle.std.specs.Prelude.{◌≡◌, true, None, IsTrue, OnOk, IfOk, IfSome, option_copied};
+ghost use Rattle.std.specs.Prelude.{◌≡◌, true, None, IsTrue, IfOk, IfSome, option_copied};
 ghost use Rattle.hd_dbd.specs.Refusals.{OnlyDevice};
 ghost use Rattle.hd_volume.specs.Calls.{IsRead};
 ghost use Rattle.hd_links.specs.Links.{is_child_type};
@@ -7,12 +7,13 @@ ghost use Rattle.hd_forest.specs.Walks.{tip};
 ghost use Rattle.hd_calls.specs.Admits.{Descend};
 ghost use Rattle.hd_get.specs.Searches.{IsOf, IsThere};
 ghost use Rattle.hd_get.specs.Starts.{least_root_key, HasRoots, LeadsToRoot, BeginsUnique, RefusesRootsBelow};
-ghost use Rattle.hd_get.specs.Descents.{least_child_key, GoesBelow, DescendsTo};
+ghost use Rattle.hd_get.specs.Descents.{least_child_key, GoesBelow, key_asked_of, asks_for, ask_for, DescendsTo, AdmitsLast, is_root_first};
 
 use crate::arguments::least_key_of;
+use crate::look::{admits_seen, look_at};
 use crate::search_starts::unique;
-use hd_dbd::{Dbd, Refused};
-use hd_forest::{Path, first_child, tip_of, twin_from};
+use hd_dbd::{Dbd, Refused, compare_keys};
+use hd_forest::{Path, first_child, tip_of, twin_places, twins_around};
 use hd_index::next_from;
 use hd_ssa::ResolvedSsa;
 use hd_stores::BlockStore;
@@ -56,15 +57,15 @@ fn least_child_key<'a>(dbd: &Dbd, ssas: &[ResolvedSsa<'a>], above: u8, code: u8)
     least_key_of(dbd, ssas, code)
 }
 
-/// Goes down from the last row of a path to its first child, of the type of a code, whose key is not below a key; says whether there is one. The
-/// blocks of the twins up to that one are read.
+/// Goes down from the last row of a path to its first child, of the type of a code, whose key is not below a key, and says whether it is equal;
+/// `None` where there is no such child. The blocks of the twins up to that one are read.
 fn go_below<S: BlockStore>(
     volume: &mut Volume<S>,
     dbd: &Dbd,
     code: u8,
     key: &[u8],
     path: &mut Path,
-) -> Result<bool, Refused>
+) -> Result<Option<bool>, Refused>
     requires of { IsOf dbd.now volume.old }
     requires there { IsThere dbd.now volume.old path.old }
     requires typed { IsTrue volume.old.is_sound → is_child_type dbd.now.types ((links_of dbd.now.types volume.old).code (tip path.old)) code ≡ true }
@@ -72,87 +73,148 @@ fn go_below<S: BlockStore>(
     ensures value { IfOk result (λ r. GoesBelow dbd.now volume.old key.now code path.old r path.new) }
     ensures refusal { OnlyDevice result }
 {
+    let Some(places) = twin_places(dbd, code) else {
+        return Ok(None);
+    };
     let child = first_child(volume, dbd, tip_of(path), code)?;
     if child == 0 {
-        return Ok(false);
+        return Ok(None);
     }
-    let twin = twin_from(volume, dbd, code, child, key)?;
-    if twin == 0 {
-        return Ok(false);
+    let around = twins_around(volume, dbd, places, child, key)?;
+    if around.from == 0 {
+        return Ok(None);
     }
-    path.push(twin);
-    Ok(true)
+    path.push(around.from);
+    Ok(Some(around.is_equal))
+}
+
+/// Whether an argument asks for a key and nothing else, not even for the last of its twins.
+fn asks_for(dbd: &Dbd, ssa: &ResolvedSsa<'_>, key: &[u8]) -> bool
+    ensures { result ≡ asks_for dbd.now.types key.now ssa.now }
+{
+    if ssa.commands().last {
+        return false;
+    }
+    match key_asked_of(dbd, ssa) {
+        Some(asked) => compare_keys(asked, key).is_eq(),
+        None => false,
+    }
+}
+
+/// The key that an argument asks its type's segments for, where it asks for that and nothing else.
+fn key_asked_of<'a>(dbd: &Dbd, ssa: &ResolvedSsa<'a>) -> Option<&'a [u8]>
+    ensures { option_copied result ≡ key_asked_of dbd.now.types ssa.now }
+{
+    let own = dbd.type_of(ssa.code())?;
+    ssa.key_asked(own.key?)
+}
+
+/// Whether the arguments of the type of a code ask for a key and nothing else.
+fn ask_for(dbd: &Dbd, ssas: &[ResolvedSsa<'_>], code: u8, key: &[u8]) -> bool
+    ensures { result ≡ ask_for dbd.now.types ssas.now code key.now }
+{
+    ssas.iter()
+        .all(|ssa| ssa.code() != code || asks_for(dbd, ssa, key))
 }
 
 /// Goes down from a root along the types of the arguments, each to the first child whose key is not below the least that its argument tells of, as
-/// far as each type is a child type of the one before it, a key is told of, and there is such a child.
+/// far as each type is a child type of the one before it, a key is told of, and there is such a child. Says whether all was gone by, and each
+/// argument below the root's asks for the key that was found and nothing else.
 fn descend<S: BlockStore>(
     volume: &mut Volume<S>,
     dbd: &Dbd,
     ssas: &[ResolvedSsa<'_>],
     path: &mut Path,
-) -> Result<(), Refused>
+) -> Result<bool, Refused>
+    requires first { is_root_first ssas.now ≡ true }
     requires descend { Descend dbd.now.types None ssas.now }
     requires of { IsOf dbd.now volume.old }
     requires there { IsThere dbd.now volume.old path.old }
     requires root { IsTrue volume.old.is_sound → (links_of dbd.now.types volume.old).code (tip path.old) ≡ 1 }
     ensures read { IsRead volume.old result volume.new }
-    ensures value { OnOk result (DescendsTo dbd.now volume.old ssas.now path.old path.new) }
+    ensures value { IfOk result (λ r. DescendsTo dbd.now volume.old ssas.now path.old r path.new) }
     ensures refusal { OnlyDevice result }
 {
     let mut above = 1;
+    let mut is_named = true;
     for place in 1..ssas.len() {
         let code = ssas[place].code();
         let Some(key) = least_child_key(dbd, ssas, above, code) else {
-            return Ok(());
+            return Ok(false);
         };
-        if !go_below(volume, dbd, code, key, path)? {
-            return Ok(());
-        }
+        let Some(is_equal) = go_below(volume, dbd, code, key, path)? else {
+            return Ok(false);
+        };
+        is_named = is_named & is_equal & ask_for(dbd, ssas, code, key);
         above = code;
     }
-    Ok(())
+    Ok(is_named)
 }
 
-/// The path of the first root whose key is not below a key, or of a row below it to which the other arguments lead; empty where there is no such root.
+/// Whether the last row of a path meets the arguments of its type. One access, and more only where one of these has L and is not the root's.
+fn admits_last<S: BlockStore>(
+    volume: &mut Volume<S>,
+    dbd: &Dbd,
+    ssas: &[ResolvedSsa<'_>],
+    path: &Path,
+) -> Result<bool, Refused>
+    requires of { IsOf dbd.now volume.old }
+    requires there { IsThere dbd.now volume.old path.now }
+    ensures read { IsRead volume.old result volume.new }
+    ensures value { IfOk result (λ r. AdmitsLast dbd.now volume.old ssas.now path.now r) }
+    ensures refusal { OnlyDevice result }
+{
+    let look = look_at(volume, dbd, ssas, tip_of(path))?;
+    admits_seen(volume, dbd, ssas, look, path)
+}
+
+/// The path of the first root whose key is not below a key, or of a row below it to which the other arguments lead, and whether the arguments are
+/// known to name that row; empty where there is no such root.
 fn descend_from<S: BlockStore>(
     volume: &mut Volume<S>,
     dbd: &Dbd,
     ssas: &[ResolvedSsa<'_>],
     key: &[u8],
-) -> Result<Path, Refused>
+) -> Result<(Path, bool), Refused>
+    requires first { is_root_first ssas.now ≡ true }
     requires descend { Descend dbd.now.types None ssas.now }
     requires of { IsOf dbd.now volume.old }
     requires holds { HasRoots dbd.now volume.old }
     requires below { RefusesRootsBelow dbd.now.types ssas.now key.now }
     ensures read { IsRead volume.old result volume.new }
-    ensures begins { IfOk result (λ path. BeginsUnique dbd.now volume.old ssas.now path) }
+    ensures begins { IfOk result (λ r. BeginsUnique dbd.now volume.old ssas.now r.0 r.1) }
     ensures refusal { OnlyDevice result }
 {
     let mut path = root_from(volume, dbd, key)?;
-    if !path.addresses().is_empty() {
-        descend(volume, dbd, ssas, &mut path)?;
+    if path.addresses().is_empty() {
+        return Ok((path, false));
     }
-    Ok(path)
+    let is_root = admits_last(volume, dbd, ssas, &path)?;
+    let is_below = descend(volume, dbd, ssas, &mut path)?;
+    Ok((path, is_root & is_below))
 }
 
-/// The path of the row where GU begins, empty where no root is left: where the root's argument tells of a least key, the first root whose key is not
-/// below it, which the index has, and from there down as far as the arguments tell of keys; else the first root. No row before it is named. One
-/// block of each level of the index is read and the twins passed over on each level below, or one row.
+/// The path of the row where GU begins, empty where no root is left, and whether the arguments are known to name that row: where the root's
+/// argument tells of a least key, the first root whose key is not below it, which the index has, and from there down as far as the arguments tell
+/// of keys; else the first root. No row before it is named. One block of each level of the index is read, the root, and the twins passed over on
+/// each level below; or one row.
 pub fn unique_by_key<S: BlockStore>(
     volume: &mut Volume<S>,
     dbd: &Dbd,
     ssas: &[ResolvedSsa<'_>],
-) -> Result<Path, Refused>
+) -> Result<(Path, bool), Refused>
     requires descend { Descend dbd.now.types None ssas.now }
     requires of { IsOf dbd.now volume.old }
     requires holds { HasRoots dbd.now volume.old }
     ensures read { IsRead volume.old result volume.new }
-    ensures begins { IfOk result (λ path. BeginsUnique dbd.now volume.old ssas.now path) }
+    ensures begins { IfOk result (λ r. BeginsUnique dbd.now volume.old ssas.now r.0 r.1) }
     ensures refusal { OnlyDevice result }
 {
     match least_root_key(dbd, ssas) {
         Some(key) => descend_from(volume, dbd, ssas, key),
-        None => unique(volume, dbd),
+        None => {
+            let path = unique(volume, dbd)?;
+            Ok((path, false))
+        }
     }
 }

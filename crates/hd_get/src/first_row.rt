@@ -33,7 +33,10 @@ pub fn first_named<S: BlockStore>(
     if ssas.is_empty() {
         return Ok(None);
     }
-    let mut path = unique_by_key(volume, dbd, ssas)?;
+    let (mut path, is_named) = unique_by_key(volume, dbd, ssas)?;
+    if is_named {
+        return Ok(Some(path));
+    }
     if !search(volume, dbd, &Named { pcb: None, ssas }, 0, &mut path)? {
         return Ok(None);
     }

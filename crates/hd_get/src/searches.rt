@@ -1,12 +1,16 @@
-ghost use Rattle.std.specs.Prelude.{[], None, IfOk};
+ghost use Rattle.std.specs.Prelude.{◌≡◌, ◌&&◌, ◌==◌, not, length, [], None, Some, IfOk};
+ghost use Rattle.hd_dbd.specs.Letters.{gives_get};
+ghost use Rattle.hd_dbd.specs.Views.{may};
 ghost use Rattle.hd_dbd.specs.Refusals.{OnlyDevice};
 ghost use Rattle.hd_volume.specs.Calls.{IsRead};
 ghost use Rattle.hd_calls.specs.Satisfies.{satisfies};
 ghost use Rattle.hd_calls.specs.Admits.{Descend};
+ghost use Rattle.hd_calls.specs.Ssas.{target_code};
 ghost use Rattle.hd_get.specs.Searches.{IsOf, MayLead};
 ghost use Rattle.hd_get.specs.Gets.{HasPosition};
 ghost use Rattle.hd_get.specs.Found.{satisfies_get, SearchesOn, Begins, IsSought};
 
+use crate::arguments::target_code;
 use crate::by_key::unique_by_key;
 use crate::call::Get;
 use crate::first::{next_by_first, next_in_parent_by_first};
@@ -16,7 +20,7 @@ use crate::plain::Plain;
 use crate::position_after::settle;
 use crate::root_search::find;
 use hd_calls::GetKind;
-use hd_dbd::{Dbd, Pcb, Refused};
+use hd_dbd::{Access, Dbd, Pcb, Refused, may};
 use hd_forest::Path;
 use hd_position::Position;
 use hd_stores::BlockStore;
@@ -84,31 +88,60 @@ fn search_for<S: BlockStore>(
     }
 }
 
-/// Where a get begins: the address of the row below which it stays, 0 for the whole database, and a path; `None` for GNP without
-/// parentage.
-fn begin<S: BlockStore>(
+/// The path of the row that a get seeks, if there is one, by a search from where it begins: the address of the row below which it stays, 0 for the
+/// whole database, and a path.
+fn seek_from<S: BlockStore>(
     volume: &mut Volume<S>,
     dbd: &Dbd,
     call: &Get<'_>,
     position: &Position,
-) -> Result<Option<(u32, Path)>, Refused>
+    parent: u32,
+    mut path: Path,
+) -> Result<Option<Path>, Refused>
+    requires descend { Descend dbd.now.types None call.now.ssas }
+    requires there { HasPosition dbd.now volume.old position.now }
+    requires begins { Begins dbd.now volume.old call.now position.now (Some (parent, path)) }
+    ensures read { IsRead volume.old result volume.new }
+    ensures value { IfOk result (λ found. IsSought dbd.now volume.old call.now position.now found) }
+    ensures refusal { OnlyDevice result }
+{
+    let _ = position;
+    if !search_for(volume, dbd, call, parent, &mut path)? {
+        return Ok(None);
+    }
+    Ok(Some(path))
+}
+
+/// Whether there are arguments, and the PCB may read the last one's type.
+fn reads_target(dbd: &Dbd, call: &Get<'_>) -> bool
+    ensures { result ≡ (not (length call.now.ssas == 0) && may (record { types = dbd.now.types; pcb = call.now.pcb }) gives_get (target_code call.now.ssas)) }
+{
+    if call.ssas.is_empty() {
+        return false;
+    }
+    may(dbd, call.pcb, Access::Get, target_code(call.ssas))
+}
+
+/// The path of the row that a GU seeks, if there is one. Where its arguments ask for keys, each of its parent's type, and nothing else, the path down
+/// by them is that of the row, and no row is judged but the root.
+fn seek_unique<S: BlockStore>(
+    volume: &mut Volume<S>,
+    dbd: &Dbd,
+    call: &Get<'_>,
+    position: &Position,
+) -> Result<Option<Path>, Refused>
+    requires unique { call.now.kind ≡ GetKind.Unique }
     requires descend { Descend dbd.now.types None call.now.ssas }
     requires there { HasPosition dbd.now volume.old position.now }
     ensures read { IsRead volume.old result volume.new }
-    ensures value { IfOk result (λ start. Begins dbd.now volume.old call.now position.now start) }
+    ensures value { IfOk result (λ path. IsSought dbd.now volume.old call.now position.now path) }
     ensures refusal { OnlyDevice result }
 {
-    match call.kind {
-        GetKind::Unique => {
-            let path = unique_by_key(volume, dbd, call.ssas)?;
-            Ok(Some((0, path)))
-        }
-        GetKind::Next => {
-            let path = next_by_first(volume, dbd, call.ssas, position)?;
-            Ok(Some((0, path)))
-        }
-        GetKind::NextInParent => next_in_parent_by_first(volume, dbd, call.ssas, position),
+    let (path, is_named) = unique_by_key(volume, dbd, call.ssas)?;
+    if is_named && reads_target(dbd, call) {
+        return Ok(Some(path));
     }
+    seek_from(volume, dbd, call, position, 0, path)
 }
 
 /// The path of the row that a get seeks, if there is one.
@@ -124,11 +157,18 @@ pub(crate) fn seek<S: BlockStore>(
     ensures value { IfOk result (λ path. IsSought dbd.now volume.old call.now position.now path) }
     ensures refusal { OnlyDevice result }
 {
-    let Some((parent, mut path)) = begin(volume, dbd, call, position)? else {
-        return Ok(None);
-    };
-    if !search_for(volume, dbd, call, parent, &mut path)? {
-        return Ok(None);
+    match call.kind {
+        GetKind::Unique => seek_unique(volume, dbd, call, position),
+        GetKind::Next => {
+            let path = next_by_first(volume, dbd, call.ssas, position)?;
+            seek_from(volume, dbd, call, position, 0, path)
+        }
+        GetKind::NextInParent => {
+            let Some((parent, path)) = next_in_parent_by_first(volume, dbd, call.ssas, position)?
+            else {
+                return Ok(None);
+            };
+            seek_from(volume, dbd, call, position, parent, path)
+        }
     }
-    Ok(Some(path))
 }

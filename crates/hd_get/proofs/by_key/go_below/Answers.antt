@@ -1,18 +1,22 @@
-use Rattle.std.proofs.Common.{◌≡◌, ◌≢◌, ℕ, ◌<◌, ◌++◌, ◌∷◌, List, [], Bool, true, false, Ok, refl, sym, ap, ap₂, subst, ◌∙◌, arith, inl, inr}
+use Rattle.std.proofs.Common.{◌≡◌, ◌≢◌, ℕ, ◌<◌, ◌++◌, ◌∷◌, List, [], length, Bool, true, Ok, Option, Some, None, IsTrue, refl, sym, ap, ap₂, subst, ◌∙◌, arith, inl, inr}
 use Rattle.std.specs.Option.{option_map_or}
-use Rattle.std.proofs.lemmas.Bool.{cases_lt, false≢true}
+use Rattle.std.proofs.lemmas.Bool.{cases_lt}
 use Rattle.hd_dbd.specs.Hierarchy.{Database}
+use Rattle.hd_dbd.specs.Segment.{Segment}
+use Rattle.hd_dbd.specs.Rows.{key_of}
 use Rattle.hd_dbd.specs.Forest.{Forest}
-use Rattle.hd_dbd.specs.Paths.{row_at, parent_row}
+use Rattle.hd_dbd.specs.Paths.{row_at}
 use Rattle.hd_volume.specs.Volumes.{VolumeState}
 use Rattle.hd_volume.proofs.CallSteps.{read-ok, reads-join}
-use Rattle.hd_links.specs.Links.{IsSegment, is_child_type}
+use Rattle.hd_links.specs.Links.{IsSegment, is_child_type, segment_at}
 use Rattle.hd_links.specs.Placed.{Placed}
-use Rattle.hd_links.specs.Steps.{rows_of, address_at}
+use Rattle.hd_links.specs.Steps.{rows_of, address_at, path_at}
+use Rattle.hd_get.specs.Asking.{address_from}
 use Rattle.hd_image.specs.Records.{links_of, IsVolumeOf}
 use Rattle.hd_forest.specs.Walks.{tip}
 use Rattle.hd_forest.specs.Rows.{IsOnRow}
 use Rattle.hd_forest.specs.Twins.{IsTwinFrom}
+use Rattle.hd_forest.specs.TwinPlaces.{twin_places}
 use Rattle.hd_forest.proofs.Reading.{after-read, sound-before, links-kept, volume-kept}
 use Rattle.hd_calls.specs.Gets.{first_child}
 use Rattle.hd_get.proofs.Grounds.{grounds, tip_is, tip_there, tip_code, short_path_by, told_before}
@@ -21,6 +25,12 @@ use Rattle.hd_get.proofs.Spans.{child_is}
 use Rattle.hd_get.proofs.TwinsFrom.{from_row}
 use Rattle.hd_get.proofs.Descents.{from_parts, child_from}
 use Rattle.hd_get.proofs.by_key.go_below.Goals as goal
+
+nothing : (e : Bool) → None ≡ Some e → ⊥
+nothing e is = cc
+
+pub returns-in_default-clause-value : goal.returns-in_default-clause-value
+returns-in_default-clause-value g c f i at = record { below = λ e is. absurd (nothing e is); stays = λ e. refl }
 
 pub first_child-requires-clause-there : goal.first_child-requires-clause-there
 first_child-requires-clause-there g c sound =
@@ -33,7 +43,7 @@ first_child-requires-clause-there g c sound =
 some : (n : ℕ) → n ≢ 0 → 0 < n
 some n ne = elim (cases_lt 0 n) [ inl w ↦ w | inr w ↦ absurd (ne (let z : n ≡ 0 = omega arith in z)) ]
 
--- the first child that was read is a row's
+-- The first child that was read is a row's.
 record IsFirst (d : Database) (v : VolumeState) (f : Forest Placed) (i code child : ℕ) : Type 0 where
   first : ℕ
   is_first : first_child d.types (rows_of f) code i ≡ Some first
@@ -63,41 +73,71 @@ found d v of f path i on code child tip_ is read there typed_ =
     }
 
 pub returns-then-child-eq0-clause-value : goal.returns-then-child-eq0-clause-value
-returns-then-child-eq0-clause-value g c f i at = record { below = λ e. absurd (false≢true e); stays = λ e. refl }
+returns-then-child-eq0-clause-value g c f i at = record { below = λ e is. absurd (nothing e is); stays = λ e. refl }
 
-pub twin_from-requires-clause-of : goal.twin_from-requires-clause-of
-twin_from-requires-clause-of g c = volume-kept c.args.dbd.now c.args.volume.now c.first_child.new.volume c.in_ok-child.ensures.read c.requires.of
+pub twins_around-requires-clause-of : goal.twins_around-requires-clause-of
+twins_around-requires-clause-of g c = volume-kept c.args.dbd.now c.args.volume.now c.first_child.new.volume c.in_ok-child.ensures.read c.requires.of
 
-pub twin_from-requires-clause-holds : goal.twin_from-requires-clause-holds
-twin_from-requires-clause-holds g c now =
+pub twins_around-requires-clause-holds : goal.twins_around-requires-clause-holds
+twins_around-requires-clause-holds g c now =
     let d = c.args.dbd.now in
     let u = c.args.volume.now in
     let sound = sound-before u c.first_child.new.volume c.in_ok-child.ensures.read now in
     let T = c.requires.there sound in
     (after-read d u c.first_child.new.volume c.in_ok-child.ensures.read sound).forest (T.0, T.2.holds)
 
--- the child of a row that the path is of
-child_of_path : (g : goal.Over) (c : goal.Else-child-eq0 g) → (sound : IsTrue c.args.volume.now.is_sound) → (f : Forest Placed) (i : ℕ) → IsOnRow c.args.dbd.now.types (links_of c.args.dbd.now.types c.args.volume.now) f c.args.path.now i
-    → IsFirst c.args.dbd.now c.args.volume.now f i c.args.code c.in_ok-child.child
-child_of_path g c sound f i on =
-    found c.args.dbd.now c.args.volume.now (c.requires.of sound) f c.args.path.now i on c.args.code c.in_ok-child.child c.tip_of.result c.tip_of.ensures (c.in_ok-child.ensures.value sound)
-    (some c.in_ok-child.child c.if-child-eq0.false) (c.requires.typed sound)
-
-pub twin_from-requires-clause-there : goal.twin_from-requires-clause-there
-twin_from-requires-clause-there g c =
+pub twins_around-requires-clause-there : goal.twins_around-requires-clause-there
+twins_around-requires-clause-there g c =
     links-kept c.args.dbd.now (λ m. IsSegment m c.in_ok-child.child) c.args.volume.now c.first_child.new.volume c.in_ok-child.ensures.read
-    (λ sound. (let T = c.requires.there sound in (child_of_path g c sound T.0 T.1 T.2).there))
+    (λ sound. (let T = c.requires.there sound in (found c.args.dbd.now c.args.volume.now (c.requires.of sound) T.0 c.args.path.now T.1 T.2 c.args.code c.in_ok-child.child c.tip_of.result c.tip_of.ensures (c.in_ok-child.ensures.value sound)
+    (some c.in_ok-child.child c.if-child-eq0.false) (c.requires.typed sound)).there))
 
-pub twin_from-requires-clause-typed : goal.twin_from-requires-clause-typed
-twin_from-requires-clause-typed g c =
-    links-kept c.args.dbd.now (λ m. m.code c.in_ok-child.child ≡ c.args.code) c.args.volume.now c.first_child.new.volume c.in_ok-child.ensures.read
-    (λ sound. (let T = c.requires.there sound in (child_of_path g c sound T.0 T.1 T.2).code_is))
+pub twins_around-requires-clause-places : goal.twins_around-requires-clause-places
+twins_around-requires-clause-places g c =
+    links-kept c.args.dbd.now (λ m. twin_places c.args.dbd.now.types (m.code c.in_ok-child.child) ≡ Some c.in-Some.places) c.args.volume.now c.first_child.new.volume c.in_ok-child.ensures.read
+    (λ sound. (let T = c.requires.there sound in ap (twin_places c.args.dbd.now.types) (found c.args.dbd.now c.args.volume.now (c.requires.of sound) T.0 c.args.path.now T.1 T.2 c.args.code c.in_ok-child.child c.tip_of.result c.tip_of.ensures (c.in_ok-child.ensures.value sound)
+    (some c.in_ok-child.child c.if-child-eq0.false) (c.requires.typed sound)).code_is ∙ sym c.twin_places.ensures ∙ c.in-Some.is))
 
-pub returns-then-twin-eq0-clause-read : goal.returns-then-twin-eq0-clause-read
-returns-then-twin-eq0-clause-read g c = reads-join (Ok false) c.in_ok-child.ensures.read (read-ok false c.in_ok-twin.ensures.read)
+pub returns-then-around-eq0-clause-read : goal.returns-then-around-eq0-clause-read
+returns-then-around-eq0-clause-read g c = reads-join (Ok None) c.in_ok-child.ensures.read (read-ok None c.in_ok-around.ensures.read)
 
-pub returns-then-twin-eq0-clause-value : goal.returns-then-twin-eq0-clause-value
-returns-then-twin-eq0-clause-value g c f i at = record { below = λ e. absurd (false≢true e); stays = λ e. refl }
+pub returns-then-around-eq0-clause-value : goal.returns-then-around-eq0-clause-value
+returns-then-around-eq0-clause-value g c f i at = record { below = λ e is. absurd (nothing e is); stays = λ e. refl }
 
 pub returns-clause-read : goal.returns-clause-read
-returns-clause-read g c = reads-join (Ok true) c.in_ok-child.ensures.read (read-ok true c.in_ok-twin.ensures.read)
+returns-clause-read g c = reads-join (Ok (Some c.in_ok-around.around.is_equal)) c.in_ok-child.ensures.read (read-ok (Some c.in_ok-around.around.is_equal) c.in_ok-around.ensures.read)
+
+one_of : (a b : Bool) → Some a ≡ Some b → a ≡ b
+one_of a b e = cc
+
+pub returns-clause-value : goal.returns-clause-value
+returns-clause-value g c f i at =
+    let d = c.args.dbd.now in
+    let u = c.args.volume.now in
+    let v = c.first_child.new.volume in
+    let m = links_of d.types u in
+    let G = grounds d u f (c.requires.of at.sound) at.row.holds in
+    let F = (found c.args.dbd.now c.args.volume.now (c.requires.of at.sound) f c.args.path.now i at.row c.args.code c.in_ok-child.child c.tip_of.result c.tip_of.ensures (c.in_ok-child.ensures.value at.sound)
+    (some c.in_ok-child.child c.if-child-eq0.false) (c.requires.typed at.sound)) in
+    let same = after-read d u v c.in_ok-child.ensures.read at.sound in
+    let twin : c.in_ok-around.around.from ≡ address_from d.types f c.args.key.now F.first
+    = from_row d.types m f G c.args.key.now F.first c.in_ok-around.around.from F.within
+    (subst (λ x. IsTwinFrom d.types m c.args.key.now x c.in_ok-around.around.from) F.at
+    (subst (λ k. IsTwinFrom d.types k c.args.key.now c.in_ok-child.child c.in_ok-around.around.from) same.links (c.in_ok-around.ensures.from same.sound))) in
+    let T = child_from d.types f i c.args.code at.row.within c.args.key.now F.first F.is_first c.in_ok-around.around.from (some c.in_ok-around.around.from c.if-around-eq0.false) twin in
+    let P = from_parts d.types (rows_of f) i c.args.code at.row.within c.args.key.now T.1.first T.0 T.1.is_first T.1.from in
+    let is : c.push.new.self ≡ path_at d.types f T.0
+    = c.push.ensures (short_path_by d u f (c.requires.of at.sound) c.args.path.now i at.row T.0 P.within P.parent)
+    ∙ ap (λ (xs : List ℕ). xs ++ c.in_ok-around.around.from ∷ []) at.row.is ∙ T.2 in
+    record {
+      below = λ e r. (
+        T.0,
+        T.1,
+        is,
+        λ told.
+            (let E = c.in_ok-around.ensures.equal same.sound (one_of c.in_ok-around.around.is_equal e r ∙ told) in
+            ap (key_of d.types) (sym (G.addressed.same T.0 P.within) ∙ ap (segment_at m) (sym T.3))
+            ∙ subst (λ k. key_of d.types (segment_at k c.in_ok-around.around.from) ≡ c.args.key.now) same.links E.is),
+      );
+      stays = λ e. absurd (nothing c.in_ok-around.around.is_equal (sym e));
+    }

@@ -36,8 +36,8 @@ search-requires-clause-there g c now =
     let sound = sound-before u v c.in_ok-path.ensures.read now in
     let T = c.requires.holds sound in
     let rows = rows_of T.0 in
-    let M = c.in_ok-path.ensures.begins T.0 (is_asked a d.types rows) (λ j. true) sound T.1 (asked_named d.types rows a) in
-    (T.0, M.number, length rows, leads_told d u v c.in_ok-path.ensures.read sound T.0 0 (length rows) c.in_ok-path.path M.number (record { holds = T.1.records; ends = M.ends; is = M.is }))
+    let M = c.in_ok-path.ensures.begins T.0 (is_asked a d.types rows) sound T.1 (asked_named d.types rows a) in
+    (T.0, M.number, length rows, leads_told d u v c.in_ok-path.ensures.read sound T.0 0 (length rows) c.in_ok-path.path M.number M.leads)
 
 pub returns-then-not-branch-clause-read : goal.returns-then-not-branch-clause-read
 returns-then-not-branch-clause-read g c = reads-join (Ok None) c.in_ok-path.ensures.read (read-ok None c.in_ok-search.ensures.read)
@@ -50,9 +50,9 @@ returns-then-not-branch-clause-value g c f sound holds =
     let a : Asked = record { pcb = None; ssas = c.args.ssas.now } in
     let rows = rows_of f in
     let read = c.in_ok-path.ensures.read in
-    let M = c.in_ok-path.ensures.begins f (is_asked a d.types rows) (λ j. true) sound holds (asked_named d.types rows a) in
+    let M = c.in_ok-path.ensures.begins f (is_asked a d.types rows) sound holds (asked_named d.types rows a) in
     let found = c.in_ok-search.ensures.value f M.number (length rows) (after-read d u v read sound).sound
-    (leads_told d u v read sound f 0 (length rows) c.in_ok-path.path M.number (record { holds = holds.records; ends = M.ends; is = M.is })) in
+    (leads_told d u v read sound f 0 (length rows) c.in_ok-path.path M.number M.leads) in
     ap (λ (b : Bool). cond b (Some c.search.new.path) None) (sym c.if-not-branch.true) ∙ found
     ∙ ap (option_map (λ i. path_at d.types f i)) (sym M.same ∙ first_asked d.types rows c.args.ssas.now (some_are (length c.args.ssas.now) c.is_empty.result c.is_empty.ensures c.if-is_empty.false))
 
@@ -67,8 +67,8 @@ returns-clause-value g c f sound holds =
     let a : Asked = record { pcb = None; ssas = c.args.ssas.now } in
     let rows = rows_of f in
     let read = c.in_ok-path.ensures.read in
-    let M = c.in_ok-path.ensures.begins f (is_asked a d.types rows) (λ j. true) sound holds (asked_named d.types rows a) in
+    let M = c.in_ok-path.ensures.begins f (is_asked a d.types rows) sound holds (asked_named d.types rows a) in
     let found = c.in_ok-search.ensures.value f M.number (length rows) (after-read d u v read sound).sound
-    (leads_told d u v read sound f 0 (length rows) c.in_ok-path.path M.number (record { holds = holds.records; ends = M.ends; is = M.is })) in
+    (leads_told d u v read sound f 0 (length rows) c.in_ok-path.path M.number M.leads) in
     ap (λ (b : Bool). cond b (Some c.search.new.path) None) (sym c.if-not-branch.false) ∙ found
     ∙ ap (option_map (λ i. path_at d.types f i)) (sym M.same ∙ first_asked d.types rows c.args.ssas.now (some_are (length c.args.ssas.now) c.is_empty.result c.is_empty.ensures c.if-is_empty.false))
