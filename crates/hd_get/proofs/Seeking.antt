@@ -41,7 +41,7 @@ use Rattle.hd_calls.proofs.OnPaths.{Spans, on_path_of}
 use Rattle.hd_get.specs.Searches.{LeadsWithin}
 use Rattle.hd_get.specs.Starts.{IsKeptIn, AreNamed, BeginsUnique, LeadsToNext, LeadsToStart, StartsBelow}
 use Rattle.hd_get.specs.Gets.{GetCall, IsPositionIn, HasPosition, answer_to, levels_taken}
-use Rattle.hd_get.specs.Found.{satisfies_get, sought_by, LeadsToSought, IsBeginning, status_between, goes_back}
+use Rattle.hd_get.specs.Found.{satisfies_get, sought_by, LeadsToSought, IsBeginning, Begins, IsSought, status_between, goes_back}
 use Rattle.hd_get.proofs.Starts.{parent_address}
 use Rattle.hd_get.proofs.Turns.{here_from}
 use Rattle.hd_get.proofs.Grounds.{held_rows}
@@ -85,6 +85,21 @@ pub leads_told : {A : Type 0} {x : A} (d : Database) (u v : VolumeState) → IsR
     → LeadsWithin d.types (links_of d.types u) f parent end path n → LeadsWithin d.types (links_of d.types v) f parent end path n
 leads_told d u v read sound f parent end path n L =
     record { holds = subst (λ m. Holds d.types m f) (sym (after-read d u v read sound).links) L.holds; ends = L.ends; is = L.is }
+
+-- where a get begins before a call that read it begins behind it
+pub begins_told : {A : Type 0} {x : A} (d : Database) (u v : VolumeState) → IsRead {T = A} u (Ok x) v → (c : GetCall) (k : Kept) (start : Option (ℕ × List ℕ)) → Begins d u c k start → Begins d v c k start
+begins_told d u v read c k start begins f q at =
+    let back = position_back d u v read f k q at in
+    let B = begins f q back in
+    record { none = B.none; some = by start B.some back.sound }
+  where
+    by : (o : Option (ℕ × List ℕ)) → IfSome o (λ s. LeadsToSought d u f c q s.0 s.1) → IsTrue u.is_sound → IfSome o (λ s. LeadsToSought d v f c q s.0 s.1)
+    by None e sound = tt
+    by (Some s) L sound = record { number = L.number; same = L.same; leads = leads_told d u v read sound f s.0 _ s.1 L.number L.leads }
+
+-- and what it seeks behind it it sought before
+pub sought_before : {A : Type 0} {x : A} (d : Database) (u v : VolumeState) → IsRead {T = A} u (Ok x) v → (c : GetCall) (k : Kept) (path : Option (List ℕ)) → IsSought d v c k path → IsSought d u c k path
+sought_before d u v read c k path sought f q at = sought f q (position_told d u v read f k q at)
 
 -- ---- where a get begins
 

@@ -1,6 +1,5 @@
 -- Where a get begins to look.
 use Rattle.std.specs.Prelude.{◌≡◌, IsTrue, ℕ, ◌<◌, List, [], ◌∷◌, length, Bool, true, false, ◌==◌, cond, Option, None, is_some, IfSome, unwrap_or, option_and_then}
-use Rattle.std.specs.Option.{option_map_or}
 use Rattle.hd_dbd.specs.Types.{SegmentType}
 use Rattle.hd_dbd.specs.Hierarchy.{Database, type_of}
 use Rattle.hd_dbd.specs.Segment.{Segment}

@@ -1,6 +1,5 @@
-use Rattle.std.proofs.Common.{◌≡◌, ap, subst, sym, ◌∙◌}
+use Rattle.std.proofs.Common.{ap, subst, sym, ◌∙◌}
 use Rattle.hd_links.specs.Links.{IsSegment, segment_at}
-use Rattle.hd_links.specs.Steps.{rows_of}
 use Rattle.hd_image.specs.Records.{links_of}
 use Rattle.hd_volume.proofs.JoinLemmas.{if-ok-map}
 use Rattle.hd_forest.specs.Rows.{IsOnSomeRow}

@@ -1,18 +1,16 @@
-use Rattle.std.proofs.Common.{◌≡◌, ℕ, ◌+◌, ◌-◌, ◌<◌, ◌≤◌, List, [], ◌∷◌, length, map, slice_index, Bool, true, false, Some, None, IsTrue, Ok, refl, sym, ap, subst, ◌∙◌, arith, inl, inr}
-use Rattle.std.specs.Prelude.{◌==◌, ◌&&◌, option_copied}
-use Rattle.std.proofs.lemmas.Bool.{cases_lt, eqb-true}
-use Rattle.hd_dbd.specs.Forest.{Forest}
+use Rattle.std.proofs.Common.{◌≡◌, ◌+◌, ◌-◌, ◌<◌, ◌≤◌, List, [], ◌∷◌, length, map, slice_index, true, false, Some, Ok, sym, ap, subst, ◌∙◌, arith}
+use Rattle.std.specs.Prelude.{◌&&◌, option_copied}
+use Rattle.std.proofs.lemmas.Bool.{eqb-true}
 use Rattle.hd_volume.proofs.CallSteps.{read-ok, read-none, reads-join}
 use Rattle.hd_links.specs.Links.{is_child_type}
-use Rattle.hd_links.specs.Placed.{Placed}
 use Rattle.hd_links.specs.Steps.{rows_of}
 use Rattle.hd_image.specs.Records.{links_of}
 use Rattle.hd_forest.specs.Walks.{tip}
 use Rattle.hd_forest.specs.Rows.{IsOnSomeRow}
 use Rattle.hd_forest.proofs.Reading.{links-kept, volume-kept}
-use Rattle.hd_calls.specs.Ssas.{Ssa, target_code}
+use Rattle.hd_calls.specs.Ssas.{Ssa}
 use Rattle.hd_get.specs.Searches.{IsPathOf}
-use Rattle.hd_get.specs.Descents.{least_child_key, ask_for, LeadsBelow, is_root_first}
+use Rattle.hd_get.specs.Descents.{least_child_key, LeadsBelow, is_root_first}
 use Rattle.hd_get.proofs.Grounds.{held_rows, grounds, tip_code, told_before}
 use Rattle.hd_get.proofs.Descents.{HasCome, child_typed, parent_is, new_code, further, code_at_place, come_to_last, come_so_far}
 use Rattle.hd_get.proofs.by_key.descend.Goals as goal

@@ -1,4 +1,4 @@
-use Rattle.std.proofs.Common.{◌≡◌, ◌≢◌, ℕ, ◌<◌, ◌++◌, ◌∷◌, List, [], length, Bool, true, Ok, Option, Some, None, IsTrue, refl, sym, ap, ap₂, subst, ◌∙◌, arith, inl, inr}
+use Rattle.std.proofs.Common.{◌≡◌, ◌≢◌, ℕ, ◌<◌, ◌++◌, ◌∷◌, List, [], length, Bool, true, Ok, Option, Some, None, refl, sym, ap, subst, ◌∙◌, arith, inl, inr}
 use Rattle.std.specs.Option.{option_map_or}
 use Rattle.std.proofs.lemmas.Bool.{cases_lt}
 use Rattle.hd_dbd.specs.Hierarchy.{Database}
@@ -19,7 +19,7 @@ use Rattle.hd_forest.specs.Twins.{IsTwinFrom}
 use Rattle.hd_forest.specs.TwinPlaces.{twin_places}
 use Rattle.hd_forest.proofs.Reading.{after-read, sound-before, links-kept, volume-kept}
 use Rattle.hd_calls.specs.Gets.{first_child}
-use Rattle.hd_get.proofs.Grounds.{grounds, tip_is, tip_there, tip_code, short_path_by, told_before}
+use Rattle.hd_get.proofs.Grounds.{grounds, tip_is, tip_there, tip_code, short_path_by}
 use Rattle.hd_get.proofs.Climbs.{child_same, child_some}
 use Rattle.hd_get.proofs.Spans.{child_is}
 use Rattle.hd_get.proofs.TwinsFrom.{from_row}

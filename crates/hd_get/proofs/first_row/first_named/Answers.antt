@@ -1,10 +1,11 @@
-use Rattle.std.proofs.Common.{◌≡◌, ◌<◌, ℕ, Bool, true, false, length, Ok, Some, None, cond, sym, ap, ◌∙◌, arith, inl, inr}
-use Rattle.std.specs.Prelude.{◌==◌, option_map}
-use Rattle.std.proofs.lemmas.Bool.{cases_lt, eq-eqb, eqb-true, false≢true}
+use Rattle.std.proofs.Common.{◌≡◌, ◌<◌, ℕ, List, [], Bool, false, refl, length, Ok, Some, None, cond, sym, ap, ◌∙◌, arith, inl, inr}
+use Rattle.std.specs.Prelude.{◌==◌, nat_lt, option_map}
+use Rattle.std.proofs.lemmas.Bool.{cases_lt, and_from, cond-true, lt-ltb, eq-eqb, eqb-true, false≢true}
 use Rattle.hd_volume.proofs.CallSteps.{read-ok, reads-join}
 use Rattle.hd_links.specs.Steps.{rows_of, path_at}
 use Rattle.hd_forest.proofs.Reading.{after-read, sound-before, volume-kept}
 use Rattle.hd_get.specs.Asking.{Asked, is_asked}
+use Rattle.hd_get.proofs.Turns.{here_from}
 use Rattle.hd_get.proofs.Seeking.{leads_told}
 use Rattle.hd_get.proofs.NamedRows.{asked_named, first_asked, none_named}
 use Rattle.hd_get.proofs.first_row.first_named.Goals as goal
@@ -20,6 +21,18 @@ pub returns-then-is_empty-clause-value : goal.returns-then-is_empty-clause-value
 returns-then-is_empty-clause-value g c f sound holds =
     let d = c.args.dbd.now in
     sym (ap (option_map (λ i. path_at d.types f i)) (none_named d.types (rows_of f) c.args.ssas.now (eqb-true (length c.args.ssas.now) 0 (sym c.is_empty.ensures ∙ c.if-is_empty.true))))
+
+pub returns-then-is_named-clause-value : goal.returns-then-is_named-clause-value
+returns-then-is_named-clause-value g c f sound holds =
+    let d = c.args.dbd.now in
+    let a : Asked = record { pcb = None; ssas = c.args.ssas.now } in
+    let rows = rows_of f in
+    let M = c.in_ok-path.ensures.begins f (is_asked a d.types rows) sound holds (asked_named d.types rows a) in
+    let N = M.named c.if-is_named.true in
+    ap (λ (p : List ℕ). Some p) (M.leads.is ∙ cond-true (nat_lt M.number (length rows)) (path_at d.types f M.number) [] (lt-ltb M.number (length rows) N.0))
+    ∙ sym (ap (option_map (λ i. path_at d.types f i))
+    (sym (first_asked d.types rows c.args.ssas.now (some_are (length c.args.ssas.now) c.is_empty.result c.is_empty.ensures c.if-is_empty.false)) ∙ M.same
+    ∙ here_from (is_asked a d.types rows) M.number M.number (length rows) (omega arith) N.0 (λ j low high. absurd (omega arith)) (and_from _ _ N.1 refl)))
 
 pub search-requires-clause-suits : goal.search-requires-clause-suits
 search-requires-clause-suits g c = (some_are (length c.args.ssas.now) c.is_empty.result c.is_empty.ensures c.if-is_empty.false, c.requires.descend)

@@ -1,4 +1,4 @@
-use Rattle.std.proofs.Common.{◌≡◌, ℕ, Bool, List, Ok, Some, None, Option, cond, sym, ap, ◌∙◌}
+use Rattle.std.proofs.Common.{Bool, Some, None, cond, sym, ap, ◌∙◌}
 use Rattle.std.specs.Prelude.{option_map}
 use Rattle.hd_links.specs.Steps.{path_at}
 use Rattle.hd_get.proofs.searches.seek_from.Goals as goal
