@@ -5,3 +5,4 @@ pub mod Bounds
 pub mod Resolving
 pub mod Singles
 pub mod AtOnce
+pub mod Behind
