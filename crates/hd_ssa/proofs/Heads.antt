@@ -2,14 +2,16 @@
 use Rattle.std.proofs.Common.{append_assoc, ◌≡◌, ℕ, ◌+◌, ◌-◌, ◌<◌, List, [], ◌∷◌, ◌++◌, map, drop, length, get_or, min, Bool, true, false, Option, Some, None, ap, ap₂, ◌∙◌, sym, refl}
 use Rattle.std.specs.List.{position_or_len}
 use Rattle.std.specs.Global.{Vec}
-use Rattle.std.specs.Prelude.{nat_lt, not, ◌&&◌, ◌||◌, nat_le, is_none, option_map, option_and_then, cond, position, bytes_eq, Result, Ok}
+use Rattle.std.specs.Prelude.{nat_lt, is_some, not, ◌&&◌, ◌||◌, nat_le, is_none, option_map, option_and_then, cond, position, bytes_eq, Result, Ok}
 use Rattle.std.specs.Option.{option_map_or}
 use Rattle.std.proofs.lemmas.List.{length-map, drop-map, drop_min, drop_more}
 use Rattle.std.proofs.lemmas.List.Folds.{list_all-map}
+use Rattle.std.proofs.lemmas.List.Quantifiers.{position-Some}
+use Rattle.std.proofs.lemmas.Slice.Eq.{bytes_eq-Decides}
 use Rattle.hd_dbd.specs.Types.{SegmentType}
 use Rattle.hd_dbd.specs.Hierarchy.{is_under}
 use Rattle.hd_dbd.specs.ProgramRules.{type_names, code_named}
-use Rattle.hd_dbd.specs.Views.{Setting}
+use Rattle.hd_dbd.specs.Views.{Setting, letters_for}
 use Rattle.hd_dbd.specs.declared.answer.Status.{Status}
 use Rattle.hd_calls.specs.declared.call.Function.{Function}
 use Rattle.hd_calls.specs.declared.call.Function.TheVariants.{Get, Insert, Replace, Delete}
@@ -30,6 +32,27 @@ place_named name types = ap₂ (λ (n count : ℕ). cond (nat_lt n count) (Some 
 
 pub code_at : (types : List SegmentType) (name : List ℕ) (o : Option ℕ) → o ≡ position (λ t. bytes_eq t.name name) types → code_named (type_names types) name ≡ option_map (λ i. i + 1) o
 code_at types name o is = ap (λ (p : Option ℕ). option_map (λ i. i + 1) p) (place_named name types ∙ sym is)
+
+-- where no type has the name it has no code
+pub seen_none : (s : Setting) (name : List ℕ) → position (λ t. bytes_eq t.name name) s.types ≡ None → seen_code s name ≡ None
+seen_none s name is = by (letters_for s.pcb name)
+  where
+    by : (o : Option (List ℕ)) → option_and_then (λ _. code_named (type_names s.types) name) o ≡ None
+    by None = refl
+    by (Some letters) = code_at s.types name None (sym is)
+
+-- the code of a name that the PCB sees, by the place of its type
+pub seen_at : (s : Setting) (name : List ℕ) (i : ℕ) → position (λ t. bytes_eq t.name name) s.types ≡ Some i → is_some (letters_for s.pcb name) ≡ true → seen_code s name ≡ Some (i + 1)
+seen_at s name i is seen = by (letters_for s.pcb name) seen
+  where
+    by : (o : Option (List ℕ)) → is_some o ≡ true → option_and_then (λ _. code_named (type_names s.types) name) o ≡ Some (i + 1)
+    by None seen = cc
+    by (Some letters) seen = code_at s.types name (Some i) (sym is)
+
+-- the type at the place of a name has the name
+pub name_at : (types : List SegmentType) (name : List ℕ) (i : ℕ) (t : SegmentType) → position (λ t. bytes_eq t.name name) types ≡ Some i → t ≡ get_or types i t → t.name ≡ name
+name_at types name i t is at_place =
+    (bytes_eq-Decides t.name name).0 (ap (λ (u : SegmentType). bytes_eq u.name name) at_place ∙ (position-Some (λ u. bytes_eq u.name name) types i t is).1)
 
 -- ---- heads without names
 

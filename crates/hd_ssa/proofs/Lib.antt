@@ -6,3 +6,4 @@ pub mod Resolving
 pub mod Singles
 pub mod EqualKeys
 pub mod AtOnce
+pub mod Behind

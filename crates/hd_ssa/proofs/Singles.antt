@@ -5,8 +5,11 @@ use Rattle.hd_dbd.specs.declared.answer.Status.{Status}
 use Rattle.hd_dbd.specs.declared.answer.Status.TheVariants.{AJ}
 use Rattle.hd_calls.specs.Functions.{result_and_then}
 use Rattle.hd_calls.specs.Ssas.{Comparison, ComparisonRead, read_comparison, read_groups, read_qualification, joined_to, begins_with, is_close, is_and, is_or}
-use Rattle.hd_ssa.specs.Texts.{groups_in, single_of}
-use Rattle.hd_ssa.proofs.Groups.{and_of, or_of, read_behind, read_next, read_cut_fault}
+use Rattle.std.proofs.lemmas.Option.{none-some, same_Some, option_and_then_some}
+use Rattle.std.specs.Prelude.{Some}
+use Rattle.std.specs.Result.{result_ok}
+use Rattle.hd_ssa.specs.Texts.{groups_in, single_of, closed_of, closed_comparison}
+use Rattle.hd_ssa.proofs.Groups.{and_of, or_of, read_behind, read_next, read_cut_fault, read_close}
 
 -- the first group has a comparison
 abbrev is_begun : List (List Comparison) → Bool
@@ -78,6 +81,23 @@ single_open t text c whole cut unclosed = by_length (length text) refl
     by_length zero is = (let wrong : Err AJ ≡ Ok (groups_in t text) = sym (ap (λ n. read_groups t n text) is) ∙ whole in cc)
     by_length (suc m) is =
         (connected_more t m c (groups_in t text) (λ text gs h. read_begun t m text gs h) unclosed (sym (read_next t (length text) m text c is cut) ∙ whole)).1
+
+reads_ok : (r : Result ComparisonRead Status) (d : ComparisonRead) → result_ok r ≡ Some d → r ≡ Ok d
+reads_ok (Ok x) d is = ap (λ (x : ComparisonRead). Ok x) (same_Some x d is)
+reads_ok (Err e) d is = absurd (none-some d is)
+
+-- a comparison that is closed is the whole qualification
+pub closed_groups : (t : SegmentType) (text : List ℕ) (c : Comparison) → closed_comparison t text ≡ Some c → read_qualification t text ≡ Ok ((c ∷ []) ∷ [])
+closed_groups t [] c is = absurd (none-some c is)
+closed_groups t (b ∷ bs) c is =
+    option_and_then_some closed_of (result_ok (read_comparison t (b ∷ bs))) c is (λ d reads closes.
+    let parts = closed_parts d (begins_with is_close d.behind) refl closes in
+    read_close t (length (b ∷ bs)) (length bs) (b ∷ bs) d refl (reads_ok (read_comparison t (b ∷ bs)) d reads) parts.0
+    ∙ ap (λ (x : Comparison). Ok ((x ∷ []) ∷ [])) parts.1)
+  where
+    closed_parts : (d : ComparisonRead) (k : Bool) → begins_with is_close d.behind ≡ k → cond k (Some d.comparison) None ≡ Some c → (begins_with is_close d.behind ≡ true) × (d.comparison ≡ c)
+    closed_parts d true e h = (e, same_Some d.comparison c h)
+    closed_parts d false e h = absurd (none-some c h)
 
 -- a fault of the first comparison is the qualification's
 pub first_fault : (t : SegmentType) (text : List ℕ) (e : Status) → read_comparison t text ≡ Err e → read_qualification t text ≡ Err e

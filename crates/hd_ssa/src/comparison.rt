@@ -7,6 +7,7 @@ ghost use Rattle.hd_calls.specs.Satisfies.{accepts, is_true_of};
 ghost use Rattle.hd_calls.specs.SearchKeys.{refuses_from, is_of_key, is_comparison_past};
 ghost use Rattle.hd_ssa.specs.LeastKeys.{refuses_below, bound_of};
 ghost use Rattle.hd_ssa.specs.EqualKeys.{is_equality, equal_to};
+ghost use Rattle.hd_ssa.specs.Texts.{closed_comparison};
 
 use hd_calls::Operator;
 use hd_dbd::{Field, Key, Name8, SegType, Status, compare_keys};
@@ -149,8 +150,18 @@ fn is_equality(operator: Operator) -> bool
     matches!(operator, Operator::Equal)
 }
 
-/// The operator of two bytes.
+/// The operator of two bytes. EQ, which most comparisons have, is looked for first.
 fn operator_of(bytes: &[u8]) -> Option<Operator>
+    ensures { result ≡ operator_of bytes.now }
+{
+    match bytes {
+        b"EQ" => Some(Operator::Equal),
+        _ => any_operator_of(bytes),
+    }
+}
+
+/// The operator of two bytes.
+fn any_operator_of(bytes: &[u8]) -> Option<Operator>
     ensures { result ≡ operator_of bytes.now }
 {
     match bytes {
@@ -194,6 +205,29 @@ fn field_named(segment: &SegType, text: &[u8]) -> Option<Field>
         }
     }
     None
+}
+
+impl<'a> Comparison<'a> {
+    /// The comparison at the front of a text, where the bracket that ends a qualification stands right behind it.
+    pub fn closed(segment: &SegType, text: &'a [u8]) -> Option<Comparison<'a>>
+        ensures { result ≡ closed_comparison segment.now text.now }
+    {
+        if text.len() < 10 {
+            return None;
+        }
+        let field = field_named(segment, text)?;
+        let operator = operator_of(&text[8..10])?;
+        let rest = &text[10..];
+        let length = field.length as usize;
+        if rest.len() <= length || rest[length] != b')' {
+            return None;
+        }
+        Some(Comparison {
+            field,
+            operator,
+            value: &rest[..length],
+        })
+    }
 }
 
 impl<'a> ComparisonRead<'a> {

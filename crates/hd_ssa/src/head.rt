@@ -1,4 +1,4 @@
-ghost use Rattle.std.specs.Prelude.{◌≡◌, ◌≤◌, length};
+ghost use Rattle.std.specs.Prelude.{◌≡◌, ◌≤◌, [], length};
 ghost use Rattle.std.specs.List.{prefix_len};
 ghost use Rattle.hd_calls.specs.Ssas.{is_command, has_byte, commands_among, commands_length, head_ending};
 ghost use Rattle.hd_ssa.specs.AtOnce.{head_with_name};
@@ -50,6 +50,18 @@ impl<'a> Ssa<'a> {
             commands,
             qualification,
         })
+    }
+}
+
+/// No command code.
+pub(crate) fn no_commands() -> Commands
+    ensures { result ≡ commands_among [] }
+{
+    Commands {
+        path: false,
+        first: false,
+        last: false,
+        excepted: false,
     }
 }
 

@@ -9,6 +9,7 @@ mod named;
 mod qualification;
 mod question;
 mod resolution;
+mod suits;
 
 pub use fault::SsaFault;
 pub use resolution::{Resolved, ResolvedSsa, loads, resolve};

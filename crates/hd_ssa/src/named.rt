@@ -1,13 +1,12 @@
 ghost use Rattle.std.specs.Prelude.{◌≡◌, ◌≢◌, ◌↔◌, ◌<◌, ◌≤◌, IsTrue, IsSome, length, map, Err, Some, None, IfOk, IfErr, IfSome, option_map, position, bytes_eq};
 ghost use Rattle.hd_dbd.specs.declared.answer.Status.TheVariants.{AJ};
 ghost use Rattle.hd_dbd.specs.Naming.{is_name};
-ghost use Rattle.hd_dbd.specs.ProgramRules.{type_names, code_named};
 ghost use Rattle.hd_calls.specs.Access.{seen_code};
 ghost use Rattle.hd_calls.specs.Ssas.{read_head};
 ghost use Rattle.hd_ssa.specs.Named.{named, named_heads};
 
 use crate::fault::SsaFault;
-use crate::head::Ssa;
+use crate::head::{Ssa, no_commands};
 use hd_calls::Commands;
 use hd_dbd::{Dbd, Name8, Pcb, SegType, Status};
 use smallvec::SmallVec;
@@ -39,12 +38,7 @@ impl<'a> Default for Named<'a> {
     fn default() -> Named<'a> {
         Named {
             code: None,
-            commands: Commands {
-                path: false,
-                first: false,
-                last: false,
-                excepted: false,
-            },
+            commands: no_commands(),
             qualification: None,
         }
     }
@@ -58,24 +52,18 @@ fn place_named(types: &[SegType], name: &[u8; 8]) -> Option<usize>
     types.iter().position(|segment| segment.name.is(name))
 }
 
-/// The code of the type of a name, if there is one.
-#[tactic(auto, using(crate::proofs::Heads::code_at))]
-fn code_named(types: &[SegType], name: &Name8) -> Option<u8>
-    requires { length types.now ≤ 255 }
-    ensures { result ≡ code_named (type_names types.now) name.now }
+/// The code of the type of the name of eight bytes, where the PCB sees it.
+pub(crate) fn seen_code(dbd: &Dbd, pcb: &Pcb, name: &[u8; 8]) -> Option<u8>
+    ensures code { result ≡ seen_code (record { types = dbd.now.types; pcb = pcb.now }) name.now }
+    ensures name { IfSome result (λ _. IsTrue (is_name name.now)) }
+    ensures bound { IfSome result (λ c. (0 < c) × (c ≤ length dbd.now.types)) }
 {
-    match place_named(types, name.bytes()) {
-        Some(place) => Some(place as u8 + 1),
-        None => None,
-    }
-}
-
-/// The code of the type of a name, where the PCB sees it.
-fn seen_code(dbd: &Dbd, pcb: &Pcb, name: &Name8) -> Option<u8>
-    ensures { result ≡ seen_code (record { types = dbd.now.types; pcb = pcb.now }) name.now }
-{
-    pcb.letters_for(name)?;
-    code_named(dbd.types(), name)
+    let types = dbd.types();
+    let place = place_named(types, name)?;
+    let segment = &types[place];
+    let _name = segment.name.bytes();
+    pcb.letters_for(&segment.name)?;
+    Some(place as u8 + 1)
 }
 
 /// The name that eight bytes are, if they are one: that of a type is found before it is spelled.
@@ -99,7 +87,7 @@ pub(crate) fn named_head<'a>(dbd: &Dbd, pcb: &Pcb, text: &'a [u8]) -> Option<Nam
     let (name, behind) = text.split_first_chunk::<8>()?;
     let head = Ssa::with_name(name_of(dbd.types(), name)?, behind)?;
     Some(Named {
-        code: seen_code(dbd, pcb, &head.name),
+        code: seen_code(dbd, pcb, head.name.bytes()),
         commands: head.commands,
         qualification: head.qualification,
     })

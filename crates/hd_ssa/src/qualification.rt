@@ -3,7 +3,7 @@ ghost use Rattle.std.specs.List.{list_any, list_all};
 ghost use Rattle.hd_calls.specs.Ssas.{read_qualification};
 ghost use Rattle.hd_calls.specs.Satisfies.{is_true_of};
 ghost use Rattle.hd_calls.specs.SearchKeys.{are_groups_past};
-ghost use Rattle.hd_ssa.specs.Texts.{groups_in, single_of};
+ghost use Rattle.hd_ssa.specs.Texts.{groups_in, single_of, single_groups};
 ghost use Rattle.hd_ssa.specs.Questions.{passes};
 ghost use Rattle.hd_ssa.specs.LeastKeys.{bound_of, greater_of, lesser_of, least_bound};
 ghost use Rattle.hd_ssa.specs.EqualKeys.{equal_to};
@@ -37,6 +37,18 @@ impl<'a> Model for Qualification<'a> {
 }
 
 impl<'a> Qualification<'a> {
+    /// The qualification of one comparison with which a text begins, where it is one.
+    pub fn single(segment: &'a SegType, text: &'a [u8]) -> Option<Qualification<'a>>
+        ensures { result ≡ single_groups segment.now text.now }
+    {
+        let comparison = Comparison::closed(segment, text)?;
+        Some(Qualification {
+            segment,
+            text,
+            single: Some(comparison),
+        })
+    }
+
     /// The qualification with which a text begins, as far as its closing bracket; else the first fault in it.
     pub fn read(segment: &'a SegType, text: &'a [u8]) -> Result<Qualification<'a>, Status>
         ensures { result ≡ read_qualification segment.now text.now }

@@ -8,12 +8,12 @@ ghost use Rattle.hd_calls.specs.SearchKeys.{is_key_past};
 ghost use Rattle.hd_ssa.specs.LeastKeys.{least_key, NoneQualifiesBelow};
 ghost use Rattle.hd_ssa.specs.EqualKeys.{key_asked, QualifiesByKey};
 ghost use Rattle.hd_ssa.specs.Named.{heads_in, code_below, codes_down, resolve_named};
-ghost use Rattle.hd_ssa.specs.AtOnce.{IsGet};
 
 use crate::at_once::read_down;
 use crate::fault::SsaFault;
 use crate::named::{Named, named_heads};
 use crate::qualification::Qualification;
+use crate::suits::suits;
 use hd_calls::{Commands, Function};
 use hd_dbd::{Dbd, Key, Pcb, SegType, Status};
 use smallvec::SmallVec;
@@ -23,9 +23,9 @@ use std::marker::Model;
 /// A segment search argument with its type. What it asks of a segment stays text of the call.
 #[derive(Drop)]
 pub struct ResolvedSsa<'a> {
-    code: u8,
-    commands: Commands,
-    qualification: Option<Qualification<'a>>,
+    pub(crate) code: u8,
+    pub(crate) commands: Commands,
+    pub(crate) qualification: Option<Qualification<'a>>,
 }
 
 impl<'a> Model for ResolvedSsa<'a> {
@@ -361,27 +361,6 @@ fn resolve_texts<'a>(
     resolve_heads(alloc, function, heads.as_slice(), pcb, dbd)
 }
 
-/// What the texts of a get's segment search arguments mean to a PCB. Up to four that mean something are read one by one.
-fn resolve_get<'a>(
-    alloc: Global,
-    function: Function,
-    ssas: &'a [Vec<u8>],
-    pcb: &Pcb,
-    dbd: &'a Dbd,
-) -> Result<Resolved<'a>, SsaFault>
-    requires get { IsGet function }
-    ensures ok { IfOk result (λ r. resolve (record { types = dbd.now.types; pcb = pcb.now }) function (map (λ s. s.items) ssas.now) ≡ Ok r) }
-    ensures status { (st : Status) → result ≡ Err (SsaFault.Status st) → resolve (record { types = dbd.now.types; pcb = pcb.now }) function (map (λ s. s.items) ssas.now) ≡ Err st }
-    ensures memory { length ssas.now ≤ 4 → IfErr result (λ e. e ≢ SsaFault.Memory) }
-{
-    if ssas.len() <= 4 {
-        if let Some(resolved) = read_down(alloc, dbd, pcb, ssas) {
-            return Ok(resolved);
-        }
-    }
-    resolve_texts(alloc, function, ssas, pcb, dbd)
-}
-
 /// What the segment search arguments of a call mean to a PCB. Where they mean nothing it answers AJ for the heads, then AC for the
 /// types, then AJ or AK for the qualifications. Want of memory may come with five or more.
 pub fn resolve<'a>(
@@ -395,13 +374,11 @@ pub fn resolve<'a>(
     ensures status { (st : Status) → result ≡ Err (SsaFault.Status st) → resolve (record { types = dbd.now.types; pcb = pcb.now }) function (map (λ s. s.items) ssas.now) ≡ Err st }
     ensures memory { length ssas.now ≤ 4 → IfErr result (λ e. e ≢ SsaFault.Memory) }
 {
-    if ssas.is_empty() {
-        return Ok(Resolved {
-            ssas: SmallVec::new(alloc),
-        });
+    if ssas.len() <= 4 {
+        let mut few = SmallVec::new(alloc);
+        if read_down(dbd, pcb, ssas, &mut few) && suits(function, dbd, pcb, few.as_slice()) {
+            return Ok(Resolved { ssas: few });
+        }
     }
-    match function {
-        Function::Get(_, _) => resolve_get(alloc, function, ssas, pcb, dbd),
-        _ => resolve_texts(alloc, function, ssas, pcb, dbd),
-    }
+    resolve_texts(alloc, function, ssas, pcb, dbd)
 }
