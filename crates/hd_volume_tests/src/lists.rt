@@ -4,7 +4,7 @@ use crate::text::{Line, is_end, line_of};
 use crate::trial::Trial;
 use hd_calls::GetKind;
 use hd_dbd::{Dbd, Refused};
-use hd_forest::{Path, last_child, next_row, prev_twin, tip_of, twin_from, unlink_span};
+use hd_forest::{Path, code_at, last_child, next_row, prev_twin, tip_of, twin_from, unlink_span};
 use hd_position::{Levels, Position, begin, row_before, row_on, stand, stand_on_new};
 use hd_prefix::{Layout, code_of};
 
@@ -122,7 +122,10 @@ fn link_call(trial: &mut Trial<'_>, line: &Line<'_>) -> Result<u32, Refused> {
             Ok(0)
         }
         b'b' => prev_twin(&mut trial.volume, trial.dbd, &path_of(&[a, b])),
-        b's' => twin_from(&mut trial.volume, trial.dbd, a, line.bytes),
+        b's' => {
+            let code = code_at(&mut trial.volume, trial.dbd, a)?;
+            twin_from(&mut trial.volume, trial.dbd, code, a, line.bytes)
+        }
         b'w' => walk(trial, line.bytes),
         _ => segment_call(trial, line),
     }
