@@ -4,7 +4,7 @@ ghost use Rattle.std.specs.Int.{from_be_bytes, w64};
 ghost use Rattle.std.specs.Ordering.{nat_cmp, is_lt};
 ghost use Rattle.std.specs.Cmp.Lexicographic.{slice_cmp};
 ghost use Rattle.hd_bytes.specs.Ranges.{bytes_at};
-ghost use Rattle.hd_forest.specs.BlockTwins.{IsNumberOf, HasTwin, IsWalk};
+ghost use Rattle.hd_forest.specs.BlockTwins.{IsNumberOf, HasTwin, key_in, IsWalk};
 
 use crate::twins::TwinPlaces;
 use hd_bytes::{read_u32, write_bytes};
@@ -114,7 +114,7 @@ fn pass_on(
                 before,
                 twin,
                 is_found: true,
-                is_equal: is_key_at(block, at + places.key, places.length, key),
+                is_equal: false,
             };
         }
         before = twin;
@@ -125,6 +125,25 @@ fn pass_on(
         twin,
         is_found: false,
         is_equal: false,
+    }
+}
+
+/// The walk, and whether the key where it ends was found to be equal.
+fn told(places: TwinPlaces, block: &[u8], start: u32, key: &[u8], walk: Walk) -> Walk
+    requires ends { walk.is_found ≡ true → HasTwin places block.now start walk.twin }
+    ensures same { result ≡ record walk { is_equal = result.is_equal } }
+    ensures equal { result.is_equal ≡ true → (walk.is_found ≡ true) × (key_in places block.now start walk.twin ≡ key.now) }
+{
+    if !walk.is_found {
+        return Walk {
+            is_equal: false,
+            ..walk
+        };
+    }
+    let place = (walk.twin - start) as usize + places.key;
+    Walk {
+        is_equal: is_key_at(block, place, places.length, key),
+        ..walk
     }
 }
 
@@ -142,11 +161,12 @@ pub fn pass_in(
     requires { IfSome number (λ n. IsNumberOf places.length key.now n) }
     ensures { IsWalk places block.now start key.now behind address result }
 {
-    match number {
+    let walk = match number {
         Some(number) => {
             let end = block.len().saturating_sub(7);
             pass_on(places, block, start, behind, address, key, end, number)
         }
         None => pass_on(places, block, start, behind, address, key, 0, 0),
-    }
+    };
+    told(places, block, start, key, walk)
 }
