@@ -1,11 +1,11 @@
-ghost use Rattle.std.specs.Prelude.{◌≡◌, ◌≢◌, ◌+◌, ◌≤◌, length, true, IfSome, OnSome, MatchOption, None, IsTrue, IsFalse};
+ghost use Rattle.std.specs.Prelude.{◌≡◌, ◌≢◌, ◌↔◌, ℕ, ◌+◌, ◌≤◌, length, true, IfSome, OnSome, MatchOption, None, IsTrue, IsFalse};
 ghost use Rattle.hd_bytes.specs.Ranges.{ChangesOnly};
 ghost use Rattle.hd_dbd.specs.Prefixes.{prefix_length, size_with};
 ghost use Rattle.hd_dbd.specs.Rows.{row_fits};
 ghost use Rattle.hd_prefix.specs.declared.pointer.Pointer.{Pointer};
 ghost use Rattle.hd_prefix.specs.declared.pointer.Pointer.TheVariants.{TwinForward, TwinBackward, FirstChild, LastChild};
 ghost use Rattle.hd_prefix.specs.Pointers.{is_child, place_of, IsApart};
-ghost use Rattle.hd_prefix.specs.Fields.{pointer_of, bytes_of, IsWhole, new_segment, segment_with, IsPointerSet};
+ghost use Rattle.hd_prefix.specs.Fields.{pointer_of, bytes_of, twins_end, NamesNoChildren, IsWhole, new_segment, segment_with, IsPointerSet};
 
 use crate::pointer::Pointer;
 use hd_bytes::{read_u32, write_bytes, write_u32};
@@ -84,6 +84,25 @@ impl<'a> Layout<'a> {
         }
     }
 
+    /// Whether a stored segment names no children: all bytes of its prefix behind the twin pointers are 0.
+    pub fn names_no_children(&self, segment: &[u8]) -> bool
+        requires { prefix_length (types_of self.now) (type_code self.now) ≤ length segment.now }
+        ensures bytes { (result ≡ true) ↔ NamesNoChildren (types_of self.now) (type_code self.now) segment.now }
+        ensures firsts { IsTrue result → (t : ℕ) → pointer_of (types_of self.now) (type_code self.now) (FirstChild t) segment.now ≡ 0 }
+        ensures lasts { IsTrue result → (t : ℕ) → pointer_of (types_of self.now) (type_code self.now) (LastChild t) segment.now ≡ 0 }
+    {
+        let _types = self.dbd.types();
+        let end = self.prefix_length() as usize;
+        let mut place = self.twins_end();
+        while place < end {
+            if read_u32(segment, place) != 0 {
+                return false;
+            }
+            place += 4;
+        }
+        true
+    }
+
     /// Writes an address, 0 for none, into a pointer of a stored segment; nothing where the pointer is not kept.
     pub fn write(&self, segment: &mut [u8], pointer: Pointer, address: u32)
         requires { prefix_length (types_of self.now) (type_code self.now) ≤ length segment.old }
@@ -127,6 +146,17 @@ impl<'a> Layout<'a> {
         room.fill(0);
         write_bytes(room, 0, &segment[..prefix]);
         write_bytes(room, prefix, bytes);
+    }
+
+    /// Where the twin pointers end.
+    fn twins_end(&self) -> usize
+        ensures { result ≡ twins_end (types_of self.now) (type_code self.now) }
+    {
+        if self.dbd.keeps_backward(self.code) {
+            10
+        } else {
+            6
+        }
     }
 
     fn forward_place(&self) -> Option<u16>
