@@ -7,3 +7,4 @@ pub mod HeaderFaults
 pub mod BlockFaults
 pub mod PlaceLemmas
 pub mod Lent
+pub mod KeyPlaces

@@ -5,3 +5,4 @@ pub mod Lending
 pub mod Finding
 pub mod Listing
 pub mod Heads
+pub mod Keys

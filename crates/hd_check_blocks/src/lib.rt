@@ -18,7 +18,7 @@ pub use blocks::{blocks_fault, blocks_faults};
 pub use directory::Directory;
 pub use fault::Fault;
 pub use header::{header_fault, header_faults};
-pub use keys::stored_key;
+pub use keys::{KeyPlace, key_at, key_place, stored_key};
 pub use lists::{fault_if, list_fault};
 pub use lookup::{code_at, code_near, number_near, number_of};
 pub use places::Place;

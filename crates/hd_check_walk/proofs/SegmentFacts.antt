@@ -22,10 +22,6 @@ use Rattle.hd_check_walk.specs.Notes.{named_in, named_at, named_of, HasChildrenA
 abbrev pub NamesNone : List SegmentType → ℕ → List ℕ → ℕ → Type 0
 NamesNone types code segment t = (pointer_of types code (FirstChild t) segment ≡ 0) × (pointer_of types code (LastChild t) segment ≡ 0)
 
--- nor any of one of the first types of a list
-abbrev pub NamesNoneOf : List SegmentType → ℕ → List ℕ → List ℕ → ℕ → Type 0
-NamesNoneOf types code segment ts i = (t : ℕ) → is_in (take i ts) t ≡ true → NamesNone types code segment t
-
 -- what is read by a layout of a type of a database is what is read by its types and code
 pub layout-read : (types us : List SegmentType) (code k : ℕ) (pointer : Pointer) (segment : List ℕ) (x : ℕ) → us ≡ types → k ≡ code → x ≡ pointer_of us k pointer segment → x ≡ pointer_of types code pointer segment
 layout-read types us code k pointer segment x same own is = is ∙ ap₂ (λ (ts : List SegmentType) (c : ℕ). pointer_of ts c pointer segment) same own
@@ -43,13 +39,12 @@ module _ (types : List SegmentType) (v : VolumeState) (a code : ℕ) (segment : 
   pub last-lent : (t x : ℕ) → x ≡ pointer_of types code (LastChild t) segment → x ≡ (links_of types v).last_child a t
   last-lent t x is = last-read types v a t code segment x lent.some lent.stored lent-own is
 
-  -- a segment whose bytes name no children of the types that are listed for its own names none
-  pub childless : (ts : List ℕ) (i : ℕ) → ts ≡ children_of types code → length ts ≤ i → NamesNoneOf types code segment ts i → IsChildless types (links_of types v) a
-  childless ts i list end none t child =
-      let some : code ≢ 0 = λ z. lent.typed (sym lent-own ∙ z) in
-      let all : child_types types ((links_of types v).code a) ≡ take i ts = ap (child_types types) coded ∙ listed types code ts some list ∙ sym (take_all i ts end) in
-      let zero = none t (sym (ap (λ (us : List ℕ). is_in us t) all) ∙ child) in
-      (sym (first-lent t (pointer_of types code (FirstChild t) segment) refl) ∙ zero.0, sym (last-lent t (pointer_of types code (LastChild t) segment) refl) ∙ zero.1)
+  -- a segment whose bytes name no children names none
+  pub childless : ((t : ℕ) → NamesNone types code segment t) → IsChildless types (links_of types v) a
+  childless none t child = (
+    sym (first-lent t (pointer_of types code (FirstChild t) segment) refl) ∙ (none t).0,
+    sym (last-lent t (pointer_of types code (LastChild t) segment) refl) ∙ (none t).1,
+  )
 
   -- its child types are those that are listed for its code
   pub lent-types : child_types types ((links_of types v).code a) ≡ children_of types code

@@ -2,3 +2,4 @@ pub mod Walks
 pub mod Reading
 pub mod Notes
 pub mod Twins
+pub mod Forms

@@ -8,9 +8,10 @@ ghost use Rattle.hd_image.specs.Records.{links_of, IsVolumeOf};
 ghost use Rattle.hd_check_blocks.specs.Places.{ArePlaces};
 ghost use Rattle.hd_check_blocks.specs.Finding.{WhereSome};
 ghost use Rattle.hd_check_walk.specs.Reading.{OfRead, IsAsSeen};
+ghost use Rattle.hd_check_walk.specs.Forms.{IsFormOf};
 ghost use Rattle.hd_check_walk.specs.Notes.{named_in, named_at, seen_by, StaysNoted, HasChildrenAt, IsChildNumber, IsNoted, IsNotedFor, AreNamedFor, AreNoted, AreChildrenNoted};
 
-use crate::segments::{FRONT, Seen, seen_in};
+use crate::segments::{FRONT, Form, Seen, form_of, seen_in};
 use hd_check_blocks::Place;
 use hd_dbd::{Dbd, Refused};
 use hd_prefix::{Layout, Pointer};
@@ -104,7 +105,8 @@ fn note_of(
     ensures children { IfOk result (λ o. (a : ℕ) → OfRead dbd.now a code segment.now (λ m. IfSome o (λ n. n.children ≢ CHILDLESS → HasChildrenAt dbd.now.types m named.new.items n.children a))) }
     ensures refusal { OnlyMemory result }
 {
-    let Some(seen) = seen_in(dbd, code, segment) else {
+    let form = form_of(dbd, code);
+    let Some(seen) = seen_in(&form, dbd, code, segment) else {
         return Ok(None);
     };
     if seen.is_childless {
@@ -178,12 +180,14 @@ fn seen_by(note: &Note) -> Seen
 
 /// What is seen of the segment of a number: by its note, or, where it has none, by its bytes; `None` where it is not right by itself.
 pub fn look_at<S: BlockStore>(
+    form: &Form,
     notes: &[Note],
     number: usize,
     place: Place,
     volume: &mut Volume<S>,
     dbd: &Dbd,
 ) -> Result<Option<Seen>, Refused>
+    requires form { IsFormOf dbd.now.types place.code form.now }
     requires of { IsTrue volume.old.is_sound → IsVolumeOf dbd.now volume.old }
     requires there { IsTrue volume.old.is_sound → IsSegment (links_of dbd.now.types volume.old) place.address × ((links_of dbd.now.types volume.old).code place.address ≡ place.code) }
     requires noted { IsTrue volume.old.is_sound → IsNotedFor dbd.now.types (links_of dbd.now.types volume.old) notes.now number place.address }
@@ -195,7 +199,7 @@ pub fn look_at<S: BlockStore>(
         return Ok(Some(seen_by(note)));
     }
     let segment = volume.segment_at(place.address)?;
-    Ok(seen_in(dbd, place.code, segment))
+    Ok(seen_in(form, dbd, place.code, segment))
 }
 
 /// The first and the last child of a type, one of so many child types from the first, that a segment names, as noted; `None` where nothing is

@@ -4,8 +4,9 @@ ghost use Rattle.hd_dbd.specs.Prefixes.{prefix_length};
 ghost use Rattle.hd_dbd.specs.Rows.{key_of};
 ghost use Rattle.hd_links.specs.Links.{segment_at};
 ghost use Rattle.hd_check_walk.specs.Reading.{IsChildless, OfRead, key_front};
+ghost use Rattle.hd_check_walk.specs.Forms.{IsFormOf};
 
-use hd_check_blocks::stored_key;
+use hd_check_blocks::{KeyPlace, key_at, key_place};
 use hd_dbd::Dbd;
 use hd_prefix::{Layout, Pointer, delete_byte_of};
 
@@ -40,24 +41,26 @@ fn key_front(key: &[u8]) -> [u8; FRONT]
     front
 }
 
-/// Whether a segment names no children.
-fn is_childless(dbd: &Dbd, code: u8, segment: &[u8]) -> bool
-    requires whole { prefix_length dbd.now.types code ≤ length segment.now }
-    ensures { (a : ℕ) → OfRead dbd.now a code segment.now (λ m. result ≡ true → IsChildless dbd.now.types m a) }
+/// Where the segments of a type have what a walk asks of them.
+#[derive(Clone, Copy)]
+pub struct Form<'a> {
+    layout: Layout<'a>,
+    key: Option<KeyPlace>,
+}
+
+/// Where the segments of the type of a code have what a walk asks of them.
+pub fn form_of<'a>(dbd: &'a Dbd, code: u8) -> Form<'a>
+    ensures { IsFormOf dbd.now.types code result }
 {
-    let layout = Layout::of(dbd, code);
-    for child in dbd.children_of(code) {
-        if layout.read(segment, Pointer::FirstChild(*child)) != 0
-            || layout.read(segment, Pointer::LastChild(*child)) != 0
-        {
-            return false;
-        }
+    Form {
+        layout: Layout::of(dbd, code),
+        key: key_place(dbd, code),
     }
-    true
 }
 
 /// What is seen of a segment by its bytes; `None` where it is not right by itself: it is shorter than its prefix, or its delete byte is not 0.
-pub fn seen_in(dbd: &Dbd, code: u8, segment: &[u8]) -> Option<Seen>
+pub fn seen_in(form: &Form, dbd: &Dbd, code: u8, segment: &[u8]) -> Option<Seen>
+    requires form { IsFormOf dbd.now.types code form.now }
     ensures whole { IfSome result (λ s. prefix_length dbd.now.types code ≤ length segment.now) }
     ensures delete_byte { (a : ℕ) → OfRead dbd.now a code segment.now (λ m. IfSome result (λ s. m.delete_byte a ≡ 0)) }
     ensures forward { (a : ℕ) → OfRead dbd.now a code segment.now (λ m. IfSome result (λ s. s.forward ≡ m.forward a)) }
@@ -65,18 +68,18 @@ pub fn seen_in(dbd: &Dbd, code: u8, segment: &[u8]) -> Option<Seen>
     ensures front { (a : ℕ) → OfRead dbd.now a code segment.now (λ m. IfSome result (λ s. s.front ≡ key_front (key_of dbd.now.types (segment_at m a)))) }
     ensures childless { (a : ℕ) → OfRead dbd.now a code segment.now (λ m. IfSome result (λ s. s.is_childless ≡ true → IsChildless dbd.now.types m a)) }
 {
-    if segment.len() < 2 || segment.len() < dbd.prefix_length(code) as usize {
+    let layout = form.layout;
+    if segment.len() < 2 || segment.len() < layout.prefix_length() as usize {
         return None;
     }
     if delete_byte_of(segment) != 0 {
         return None;
     }
-    let layout = Layout::of(dbd, code);
-    let front = key_front(stored_key(dbd, code, segment));
+    let front = key_front(key_at(form.key, dbd, code, segment));
     Some(Seen {
         forward: layout.read(segment, Pointer::TwinForward),
         backward: layout.read(segment, Pointer::TwinBackward),
         front,
-        is_childless: is_childless(dbd, code, segment),
+        is_childless: layout.names_no_children(segment),
     })
 }

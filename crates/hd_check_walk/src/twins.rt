@@ -16,12 +16,13 @@ ghost use Rattle.hd_check_pointers.specs.Tables.{nobody};
 ghost use Rattle.hd_check_pointers.specs.Keys.{IsLastKey};
 ghost use Rattle.hd_check_walk.specs.Reading.{IsAsSeen};
 ghost use Rattle.hd_check_walk.specs.Notes.{IsNotedFor, AreNoted};
+ghost use Rattle.hd_check_walk.specs.Forms.{IsFormOf};
 ghost use Rattle.hd_check_walk.specs.Walks.{IsHeldBy, IsFollowed, IsUnheld, StaysHeld, LeadsTo, IsEnd, StepsIn};
 ghost use Rattle.hd_check_walk.specs.Twins.{HasFront, HaveFronts, IsKeyBehind, TellsOrder};
 
 use crate::guide::Guide;
 use crate::notes::{Note, look_at};
-use crate::segments::{FRONT, Seen};
+use crate::segments::{FRONT, Form, Seen, form_of};
 use hd_check_blocks::{Directory, Place, number_near};
 use hd_check_pointers::{LastKey, is_keyed, twin_order_fault};
 use hd_dbd::{Dbd, Refused};
@@ -146,6 +147,7 @@ fn is_key_right<S: BlockStore>(
 
 /// What is seen of the segment of a number behind a twin, if there is one; `None` where it is not right there.
 fn look_behind<S: BlockStore>(
+    form: &Form,
     last: &mut LastKey,
     notes: &[Note],
     number: usize,
@@ -154,6 +156,7 @@ fn look_behind<S: BlockStore>(
     volume: &mut Volume<S>,
     dbd: &Dbd,
 ) -> Result<Option<Seen>, Refused>
+    requires form { IsFormOf dbd.now.types place.code form.now }
     requires of { IsTrue volume.old.is_sound → IsVolumeOf dbd.now volume.old }
     requires there { IsTrue volume.old.is_sound → IsSegment (links_of dbd.now.types volume.old) place.address × ((links_of dbd.now.types volume.old).code place.address ≡ place.code) }
     requires noted { IsTrue volume.old.is_sound → IsNotedFor dbd.now.types (links_of dbd.now.types volume.old) notes.now number place.address }
@@ -166,7 +169,7 @@ fn look_behind<S: BlockStore>(
     ensures known { WhereSome volume.old result (λ s. IsLastKey dbd.now.types (links_of dbd.now.types volume.old) last.new) }
     ensures refusal { OnlyDevice result }
 {
-    let Some(seen) = look_at(notes, number, place, volume, dbd)? else {
+    let Some(seen) = look_at(form, notes, number, place, volume, dbd)? else {
         return Ok(None);
     };
     if !is_backward_right(dbd, place.code, seen.backward, before.address) {
@@ -186,6 +189,7 @@ fn look_behind<S: BlockStore>(
 /// Goes where a pointer of a record leads, to a segment of a type behind a twin; `None` where it is not right there. If it names children, its
 /// number waits for them to be walked.
 fn step_to<S: BlockStore>(
+    form: &Form,
     holders: &mut Vec<u32>,
     waiting: &mut Vec<usize>,
     last: &mut LastKey,
@@ -200,6 +204,7 @@ fn step_to<S: BlockStore>(
     address: u32,
     near: usize,
 ) -> Result<Option<Step>, Refused>
+    requires form { IsFormOf dbd.now.types code form.now }
     requires as_many { length holders.old.items ≡ length places.now }
     requires of { IsTrue volume.old.is_sound → IsVolumeOf dbd.now volume.old }
     requires places { IsTrue volume.old.is_sound → ArePlaces dbd.now.types volume.old places.now }
@@ -222,7 +227,7 @@ fn step_to<S: BlockStore>(
         return Ok(None);
     };
     let place = Place { address, code };
-    let Some(seen) = look_behind(last, notes, number, place, before, volume, dbd)? else {
+    let Some(seen) = look_behind(form, last, notes, number, place, before, volume, dbd)? else {
         return Ok(None);
     };
     note_waiting(waiting, number, seen.is_childless)?;
@@ -275,6 +280,7 @@ pub fn walk_twins<S: BlockStore>(
     ensures walked { WhereSome volume.old result (λ end. StepsIn dbd.now volume.old places.now 0 0 waiting.old.items holders.old.items waiting.new.items holders.new.items) }
     ensures refusal { OnlyDeviceOrMemory result }
 {
+    let form = form_of(dbd, code);
     let mut before = no_twin();
     let mut next = first;
     let mut near = near;
@@ -284,8 +290,8 @@ pub fn walk_twins<S: BlockStore>(
         }
         let holder = holder_of(parent, before.address);
         let found = step_to(
-            holders, waiting, last, places, notes, guide, volume, dbd, holder, code, before, next,
-            near,
+            &form, holders, waiting, last, places, notes, guide, volume, dbd, holder, code, before,
+            next, near,
         )?;
         let Some(step) = found else {
             return Ok(None);

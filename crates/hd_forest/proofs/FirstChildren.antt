@@ -28,6 +28,11 @@ child-stored types v a s (t ∷ ts) ne is =
     (cond-false (a == 0) (header_of v.image).first_root (pointer_at types v (FirstChild t) a) (ne_eqb a 0 ne) ∙ ap (λ x. pointer_of types (code_of x) (FirstChild t) x) is)
     (child-stored types v a s ts ne is)
 
+-- where no first child is named there is none among any types
+pub none-in : (types : List SegmentType) (s ts : List ℕ) → ((t : ℕ) → pointer_of types (code_of s) (FirstChild t) s ≡ 0) → child_in types s ts ≡ 0
+none-in types s [] none = refl
+none-in types s (t ∷ ts) none = ap (λ (x : ℕ). first_some x (child_in types s ts)) (none t) ∙ none-in types s ts none
+
 -- and so is the last type of which there is one
 pub named-stored : (types : List SegmentType) (v : VolumeState) (a : ℕ) (s : List ℕ) (end : Option ℕ) (last : ℕ) (ts : List ℕ) → a ≢ 0 → stored_at v a ≡ s → last_named (links_of types v) a end last ts ≡ last_named_in types s end last ts
 named-stored types v a s end last [] ne is = refl

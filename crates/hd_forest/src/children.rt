@@ -1,8 +1,9 @@
-ghost use Rattle.std.specs.Prelude.{◌≡◌, ◌≤◌, length, IsTrue, IfOk};
+ghost use Rattle.std.specs.Prelude.{◌≡◌, ℕ, ◌≤◌, length, true, IsTrue, IfOk};
 ghost use Rattle.hd_dbd.specs.Prefixes.{prefix_length, children_of};
 ghost use Rattle.hd_dbd.specs.Refusals.{OnlyDevice};
 ghost use Rattle.hd_volume.specs.Calls.{IsRead};
-ghost use Rattle.hd_prefix.specs.Fields.{code_of};
+ghost use Rattle.hd_prefix.specs.declared.pointer.Pointer.TheVariants.{FirstChild};
+ghost use Rattle.hd_prefix.specs.Fields.{code_of, pointer_of};
 ghost use Rattle.hd_links.specs.Links.{IsSegment, child_types};
 ghost use Rattle.hd_links.specs.Steps.{child_among, later_than};
 ghost use Rattle.hd_image.specs.Records.{links_of, IsVolumeOf};
@@ -10,7 +11,7 @@ ghost use Rattle.hd_forest.specs.Children.{child_in, comes_before, last_named_in
 
 use crate::read::{code_in, pointer_in};
 use hd_dbd::{Dbd, Refused};
-use hd_prefix::Pointer;
+use hd_prefix::{Layout, Pointer};
 use hd_stores::BlockStore;
 use hd_volume::Volume;
 
@@ -26,10 +27,24 @@ fn later_than(code: u8, types: &[u8]) -> &[u8]
     &[]
 }
 
+/// Whether a lent segment has its prefix and names no children.
+fn names_no_children(dbd: &Dbd, segment: &[u8]) -> bool
+    ensures { result ≡ true → (t : ℕ) → pointer_of dbd.now.types (code_of segment.now) (FirstChild t) segment.now ≡ 0 }
+{
+    let layout = Layout::of(dbd, code_in(segment));
+    segment.len() >= layout.prefix_length() as usize && layout.names_no_children(segment)
+}
+
 /// The first child that a lent segment names, of some types in order, 0 for none.
 pub fn child_in(dbd: &Dbd, segment: &[u8], types: &[u8]) -> u32
     ensures { prefix_length dbd.now.types (code_of segment.now) ≤ length segment.now → result ≡ child_in dbd.now.types segment.now types.now }
 {
+    if types.is_empty() {
+        return 0;
+    }
+    if names_no_children(dbd, segment) {
+        return 0;
+    }
     for code in types {
         let child = pointer_in(dbd, segment, Pointer::FirstChild(*code));
         if child != 0 {

@@ -7,4 +7,5 @@ pub mod Numbers
 pub mod Listed
 pub mod NewSegments
 pub mod OtherBytes
+pub mod Childless
 pub mod WorkedSegments

@@ -15,7 +15,7 @@ use Rattle.hd_prefix.specs.Fields.{length_of, new_segment, IsNewSegment}
 use Rattle.hd_prefix.proofs.Sizes.{size_long}
 
 -- a number whose bytes are all 0
-number_zero : (n p : ℕ) (b : List ℕ) → ((k : ℕ) → p ≤ k → k < p + n → slice_index b k ≡ 0) → number_at n b p ≡ 0
+pub number_zero : (n p : ℕ) (b : List ℕ) → ((k : ℕ) → p ≤ k → k < p + n → slice_index b k ≡ 0) → number_at n b p ≡ 0
 unfolding number_at
 number_zero zero p b h = refl
 number_zero (suc n) p b h =

@@ -65,7 +65,7 @@ placed block_size types c (LastChild t) x fit is =
     (k, cond-true k.own.last_pointer 8 4 (last_by t (type_of types t) k.own k.later k.is parts.1), sym both.1)
 
 -- four bytes at least for each child type
-part_some : (s : SegmentType) → 4 ≤ child_part s
+pub part_some : (s : SegmentType) → 4 ≤ child_part s
 part_some s = by s.last_pointer
   where
     by : (b : Bool) → 4 ≤ cond b 8 4

@@ -1,11 +1,11 @@
 -- The fields of a stored segment of the type of code c: its prefix, its own bytes, and padding.
-use Rattle.std.specs.Prelude.{◌≡◌, ◌≢◌, ℕ, ◌+◌, ◌-◌, ◌≤◌, List, ◌∷◌, ◌++◌, length, take, drop, replicate, slice_index}
+use Rattle.std.specs.Prelude.{◌≡◌, ◌≢◌, ℕ, ◌+◌, ◌-◌, ◌≤◌, ◌<◌, cond, List, ◌∷◌, ◌++◌, length, take, drop, replicate, slice_index}
 use Rattle.std.specs.Option.{option_map_or}
 use Rattle.hd_bytes.specs.Ranges.{bytes_at}
 use Rattle.hd_bytes.specs.Numbers.{number_at}
 use Rattle.hd_dbd.specs.Types.{SegmentType}
 use Rattle.hd_dbd.specs.Lengths.{length_in}
-use Rattle.hd_dbd.specs.Prefixes.{prefix_length, size_with}
+use Rattle.hd_dbd.specs.Prefixes.{is_backward_kept, prefix_length, size_with}
 use Rattle.hd_prefix.specs.declared.pointer.Pointer.{Pointer}
 use Rattle.hd_prefix.specs.Pointers.{place_of}
 
@@ -36,6 +36,14 @@ bytes_of types c segment = bytes_at segment (prefix_length types c) (length_of t
 -- a stored segment has its prefix and all of its own bytes
 abbrev pub IsWhole : List SegmentType → ℕ → List ℕ → Type 0
 IsWhole types c segment = prefix_length types c + length_of types c segment ≤ length segment
+
+-- where the twin pointers of the prefix end
+abbrev pub twins_end : List SegmentType → ℕ → ℕ
+twins_end types c = cond (is_backward_kept types c) 10 6
+
+-- a segment names no children: all bytes of its prefix behind the twin pointers are 0
+abbrev pub NamesNoChildren : List SegmentType → ℕ → List ℕ → Type 0
+NamesNoChildren types c segment = (i : ℕ) → twins_end types c ≤ i → i < prefix_length types c → slice_index segment i ≡ 0
 
 -- A row as a whole stored segment that stands nowhere yet: its code, delete byte and all pointers 0, its bytes, and 0 up to
 -- the size that it takes.

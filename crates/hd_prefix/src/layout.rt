@@ -1,21 +1,25 @@
-ghost use Rattle.std.specs.Prelude.{◌≡◌, ◌≢◌, ◌+◌, ◌≤◌, length, true, IfSome, OnSome, MatchOption, None, IsTrue, IsFalse};
+ghost use Rattle.std.specs.Prelude.{◌≡◌, ◌≢◌, ◌↔◌, ℕ, ◌+◌, ◌≤◌, length, true, IfSome, OnSome, MatchOption, None, IsTrue, IsFalse};
 ghost use Rattle.hd_bytes.specs.Ranges.{ChangesOnly};
 ghost use Rattle.hd_dbd.specs.Prefixes.{prefix_length, size_with};
 ghost use Rattle.hd_dbd.specs.Rows.{row_fits};
 ghost use Rattle.hd_prefix.specs.declared.pointer.Pointer.{Pointer};
 ghost use Rattle.hd_prefix.specs.declared.pointer.Pointer.TheVariants.{TwinForward, TwinBackward, FirstChild, LastChild};
 ghost use Rattle.hd_prefix.specs.Pointers.{is_child, place_of, IsApart};
-ghost use Rattle.hd_prefix.specs.Fields.{pointer_of, bytes_of, IsWhole, new_segment, segment_with, IsPointerSet};
+ghost use Rattle.hd_prefix.specs.Fields.{pointer_of, bytes_of, twins_end, NamesNoChildren, IsWhole, new_segment, segment_with, IsPointerSet};
 
 use crate::pointer::Pointer;
 use hd_bytes::{read_u32, write_bytes, write_u32};
 use hd_dbd::Dbd;
 
-/// Where the fields of a type's segments stand: a view over what the database keeps of the type.
+/// Where the fields of a type's segments stand: a view over what the database keeps of the type. How long the prefix is, and where its pointers to children begin, is looked up once.
 #[derive(Clone, Copy)]
 pub struct Layout<'a> {
     dbd: &'a Dbd,
     code: u8,
+    prefix: u16,
+    children: u16,
+    ghost prefixed: { prefix ≡ prefix_length dbd.now.types code },
+    ghost behind: { children ≡ twins_end dbd.now.types code },
 }
 
 impl<'a> Layout<'a> {
@@ -27,14 +31,19 @@ impl<'a> Layout<'a> {
         ensures types { types_of result ≡ dbd.now.types }
         ensures code { type_code result ≡ code }
     {
-        Layout { dbd, code }
+        Layout {
+            dbd,
+            code,
+            prefix: dbd.prefix_length(code),
+            children: twins_end(dbd, code),
+        }
     }
 
     /// The bytes of a prefix: code, delete byte and pointers; 0 for no type.
     pub fn prefix_length(&self) -> u16
         ensures { result ≡ prefix_length (types_of self.now) (type_code self.now) }
     {
-        self.dbd.prefix_length(self.code)
+        self.prefix
     }
 
     /// Whether a stored segment has its prefix and all of its own bytes.
@@ -82,6 +91,25 @@ impl<'a> Layout<'a> {
             Some(place) => read_u32(segment, place as usize),
             None => 0,
         }
+    }
+
+    /// Whether a stored segment names no children: all bytes of its prefix behind the twin pointers are 0.
+    pub fn names_no_children(&self, segment: &[u8]) -> bool
+        requires { prefix_length (types_of self.now) (type_code self.now) ≤ length segment.now }
+        ensures bytes { (result ≡ true) ↔ NamesNoChildren (types_of self.now) (type_code self.now) segment.now }
+        ensures firsts { IsTrue result → (t : ℕ) → pointer_of (types_of self.now) (type_code self.now) (FirstChild t) segment.now ≡ 0 }
+        ensures lasts { IsTrue result → (t : ℕ) → pointer_of (types_of self.now) (type_code self.now) (LastChild t) segment.now ≡ 0 }
+    {
+        let _types = self.dbd.types();
+        let end = self.prefix_length() as usize;
+        let mut place = self.children as usize;
+        while place < end {
+            if read_u32(segment, place) != 0 {
+                return false;
+            }
+            place += 4;
+        }
+        true
     }
 
     /// Writes an address, 0 for none, into a pointer of a stored segment; nothing where the pointer is not kept.
@@ -132,20 +160,13 @@ impl<'a> Layout<'a> {
     fn forward_place(&self) -> Option<u16>
         ensures { result ≡ place_of (types_of self.now) (type_code self.now) TwinForward }
     {
-        match self.dbd.type_of(self.code) {
-            Some(_) => Some(2),
-            None => None,
-        }
+        if self.prefix == 0 { None } else { Some(2) }
     }
 
     fn backward_place(&self) -> Option<u16>
         ensures { result ≡ place_of (types_of self.now) (type_code self.now) TwinBackward }
     {
-        if self.dbd.keeps_backward(self.code) {
-            Some(6)
-        } else {
-            None
-        }
+        if self.children == 10 { Some(6) } else { None }
     }
 
     fn first_place(&self, child: u8) -> Option<u16>
@@ -179,4 +200,11 @@ impl<'a> Layout<'a> {
             None => false,
         }
     }
+}
+
+/// Where the twin pointers of the segments of a type end.
+fn twins_end(dbd: &Dbd, code: u8) -> u16
+    ensures { result ≡ twins_end dbd.now.types code }
+{
+    if dbd.keeps_backward(code) { 10 } else { 6 }
 }
