@@ -137,9 +137,8 @@ module _ (d : Database) (v : VolumeState) (f : Forest Placed) (H : HoldsPlaced d
 
   -- so it may where a path goes down from a row before which none is named
   pub begins_below : (test : ℕ → Bool) (ssas : List Ssa) → AreNamed test d.types (rows_of f) ssas → 0 < length ssas → (i : ℕ) → NonePass (is_named d.types (rows_of f) ssas) 0 i
-      → (path : List ℕ) (told : Bool) → (L : LeadsBelow d v f ssas i told path) → (known : Bool) → (known ≡ true → (told ≡ true) × (all_admitted d.types (rows_of f) ssas i ≡ true))
-      → BeginsAt test d v f ssas path known
-  begins_below test ssas named some i before path told L known tells = record {
+      → (path : List ℕ) (told : Bool) → LeadsBelow d v f ssas i told path → all_admitted d.types (rows_of f) ssas i ≡ true → BeginsAt test d v f ssas path told
+  begins_below test ssas named some i before path told L all = record {
     number = L.number;
     same = skipped test 0 L.number (length (rows_of f)) (omega arith) (λ j low high. unnamed test ssas named some j (elim (cases_lt j i) [
       | inl early ↦ before j low early
@@ -150,7 +149,7 @@ module _ (d : Database) (v : VolumeState) (f : Forest Placed) (H : HoldsPlaced d
       ends = ends_whole d.types f L.number;
       is = L.row.is ∙ sym (cond-true (nat_lt L.number (length (rows_of f))) (path_at d.types f L.number) [] (lt-ltb L.number (length (rows_of f)) L.row.within));
     };
-    named = λ e. (L.row.within, (let T = tells e in L.named T.0 T.1));
+    named = λ e. (L.row.within, L.named e all);
   }
 
   -- the path of a root is the root alone

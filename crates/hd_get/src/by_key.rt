@@ -118,8 +118,8 @@ fn ask_for(dbd: &Dbd, ssas: &[ResolvedSsa<'_>], code: u8, key: &[u8]) -> bool
 }
 
 /// Goes down from a root along the types of the arguments, each to the first child whose key is not below the least that its argument tells of, as
-/// far as each type is a child type of the one before it, a key is told of, and there is such a child. Says whether all was gone by, and each
-/// argument below the root's asks for the key that was found and nothing else.
+/// far as each type is a child type of the one before it, a key is told of, there is such a child, and its key is that one; what has another key is
+/// the last to which it goes. Says whether all was gone by, and each argument below the root's asks for the key that was found and nothing else.
 fn descend<S: BlockStore>(
     volume: &mut Volume<S>,
     dbd: &Dbd,
@@ -145,7 +145,10 @@ fn descend<S: BlockStore>(
         let Some(is_equal) = go_below(volume, dbd, code, key, path)? else {
             return Ok(false);
         };
-        is_named = is_named & is_equal & ask_for(dbd, ssas, code, key);
+        if !is_equal {
+            return Ok(false);
+        }
+        is_named = is_named & ask_for(dbd, ssas, code, key);
         above = code;
     }
     Ok(is_named)
@@ -168,8 +171,8 @@ fn admits_last<S: BlockStore>(
     admits_seen(volume, dbd, ssas, look, path)
 }
 
-/// The path of the first root whose key is not below a key, or of a row below it to which the other arguments lead, and whether the arguments are
-/// known to name that row; empty where there is no such root.
+/// The path of the first root whose key is not below a key, or, where it meets its arguments, of a row below it to which the others lead, and whether
+/// the arguments are known to name that row; empty where there is no such root.
 fn descend_from<S: BlockStore>(
     volume: &mut Volume<S>,
     dbd: &Dbd,
@@ -189,14 +192,16 @@ fn descend_from<S: BlockStore>(
     if path.addresses().is_empty() {
         return Ok((path, false));
     }
-    let is_root = admits_last(volume, dbd, ssas, &path)?;
-    let is_below = descend(volume, dbd, ssas, &mut path)?;
-    Ok((path, is_root & is_below))
+    if !admits_last(volume, dbd, ssas, &path)? {
+        return Ok((path, false));
+    }
+    let is_named = descend(volume, dbd, ssas, &mut path)?;
+    Ok((path, is_named))
 }
 
 /// The path of the row where GU begins, empty where no root is left, and whether the arguments are known to name that row: where the root's
 /// argument tells of a least key, the first root whose key is not below it, which the index has, and from there down as far as the arguments tell
-/// of keys; else the first root. No row before it is named. One block of each level of the index is read, the root, and the twins passed over on
+/// of keys that are found; else the first root. No row before it is named. One block of each level of the index is read, the root, and the twins passed over on
 /// each level below; or one row.
 pub fn unique_by_key<S: BlockStore>(
     volume: &mut Volume<S>,

@@ -207,6 +207,34 @@ const LISTS: &[u8] =
 1 seek/CLASS   (ED      EQ02)/STUD    ;;  0
 1 name/CLASS   (ED      EQ02)/STUD    ;;  0
 2 seek/CLASS   (ED      EQ02)/STUD    ;;  0
+1 from/COURSE  (NUM     EQ101)/CLASS   (ED      EQ02);;  1/5
+1 seek/COURSE  (NUM     EQ101)/CLASS   (ED      EQ02);;  1/5
+1 name/COURSE  (NUM     EQ101)/CLASS   (ED      EQ02);;  1/5
+2 seek/COURSE  (NUM     EQ101)/CLASS   (ED      EQ02);;  0
+1 from/COURSE  (NUM     EQ101)/CLASS   (ED      EQ01)/STUD    (SNAME   EQEVE );;  1/2/4
+1 seek/COURSE  (NUM     EQ101)/CLASS   (ED      EQ01)/STUD    (SNAME   EQEVE );;  1/2/4
+1 name/COURSE  (NUM     EQ101)/CLASS   (ED      EQ01)/STUD    (SNAME   EQEVE );;  1/2/4
+2 seek/COURSE  (NUM     EQ101)/CLASS   (ED      EQ01)/STUD    (SNAME   EQEVE );;  0
+1 from/COURSE  (NUM     EQ101)/CLASS   (ED      GT00)/STUD    (SNAME   EQEVE );;  1/2
+1 seek/COURSE  (NUM     EQ101)/CLASS   (ED      GT00)/STUD    (SNAME   EQEVE );;  1/2/4
+1 name/COURSE  (NUM     EQ101)/CLASS   (ED      GT00)/STUD    (SNAME   EQEVE );;  1/2/4
+2 seek/COURSE  (NUM     EQ101)/CLASS   (ED      GT00)/STUD    (SNAME   EQEVE );;  0
+1 from/COURSE  (NUM     EQ101)/CLASS   (ED      EQ01)/STUD    (SNAME   EQBOB );;  1/2/4
+1 seek/COURSE  (NUM     EQ101)/CLASS   (ED      EQ01)/STUD    (SNAME   EQBOB );;  0
+1 name/COURSE  (NUM     EQ101)/CLASS   (ED      EQ01)/STUD    (SNAME   EQBOB );;  0
+2 seek/COURSE  (NUM     EQ101)/CLASS   (ED      EQ01)/STUD    (SNAME   EQBOB );;  0
+1 from/COURSE  (NUM     EQ101)/CLASS   (ED      EQ03);;  1
+1 seek/COURSE  (NUM     EQ101)/CLASS   (ED      EQ03);;  0
+1 name/COURSE  (NUM     EQ101)/CLASS   (ED      EQ03);;  0
+2 seek/COURSE  (NUM     EQ101)/CLASS   (ED      EQ03);;  0
+1 from/COURSE  (NUM     EQ101)/CLASS   *L(ED      EQ02);;  1/5
+1 seek/COURSE  (NUM     EQ101)/CLASS   *L(ED      EQ02);;  1/5
+1 name/COURSE  (NUM     EQ101)/CLASS   *L(ED      EQ02);;  1/5
+2 seek/COURSE  (NUM     EQ101)/CLASS   *L(ED      EQ02);;  0
+1 from/COURSE  (NUM     EQ150)/CLASS   (ED      EQ01);;  7
+1 seek/COURSE  (NUM     EQ150)/CLASS   (ED      EQ01);;  0
+1 name/COURSE  (NUM     EQ150)/CLASS   (ED      EQ01);;  0
+2 seek/COURSE  (NUM     EQ150)/CLASS   (ED      EQ01);;  0
 1 name;;  0
 %E16;I:12;:the parent of a row, by a PCB that may read none
 1 come/1/2/3;;  1/2/3

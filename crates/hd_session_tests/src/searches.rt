@@ -55,7 +55,7 @@ pub fn search(
         let found = first_named(&mut trial.volume, dbd, ssas)?;
         return Ok(found.unwrap_or(Path::new()));
     }
-    let mut path = unique_by_key(&mut trial.volume, dbd, ssas)?;
+    let (mut path, _) = unique_by_key(&mut trial.volume, dbd, ssas)?;
     if word[0] == b's' {
         let judge = Named {
             pcb: Some(pcb),
