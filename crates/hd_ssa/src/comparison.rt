@@ -151,17 +151,17 @@ fn is_equality(operator: Operator) -> bool
 }
 
 /// The operator of two bytes. EQ, which most comparisons have, is looked for first.
-fn operator_of(bytes: &[u8]) -> Option<Operator>
+fn operator_eq_first(bytes: &[u8]) -> Option<Operator>
     ensures { result ≡ operator_of bytes.now }
 {
     match bytes {
         b"EQ" => Some(Operator::Equal),
-        _ => any_operator_of(bytes),
+        _ => operator_of(bytes),
     }
 }
 
 /// The operator of two bytes.
-fn any_operator_of(bytes: &[u8]) -> Option<Operator>
+fn operator_of(bytes: &[u8]) -> Option<Operator>
     ensures { result ≡ operator_of bytes.now }
 {
     match bytes {
@@ -216,7 +216,7 @@ impl<'a> Comparison<'a> {
             return None;
         }
         let field = field_named(segment, text)?;
-        let operator = operator_of(&text[8..10])?;
+        let operator = operator_eq_first(&text[8..10])?;
         let rest = &text[10..];
         let length = field.length as usize;
         if rest.len() <= length || rest[length] != b')' {

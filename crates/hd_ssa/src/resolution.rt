@@ -375,9 +375,13 @@ pub fn resolve<'a>(
     ensures memory { length ssas.now ≤ 4 → IfErr result (λ e. e ≢ SsaFault.Memory) }
 {
     if ssas.len() <= 4 {
-        let mut few = SmallVec::new(alloc);
-        if read_down(dbd, pcb, ssas, &mut few) && suits(function, dbd, pcb, few.as_slice()) {
-            return Ok(Resolved { ssas: few });
+        let mut few = Resolved {
+            ssas: SmallVec::new(alloc),
+        };
+        if read_down(dbd, pcb, ssas, &mut few.ssas)
+            && suits(function, dbd, pcb, few.ssas.as_slice())
+        {
+            return Ok(few);
         }
     }
     resolve_texts(alloc, function, ssas, pcb, dbd)
