@@ -136,12 +136,7 @@ fn is_less(one: &[u8], other: &[u8]) -> bool
     requires as_long { length one.now ≡ length other.now }
     ensures { result ≡ key_less one.now other.now }
 {
-    for i in 0..one.len() {
-        if one[i] != other[i] {
-            return one[i] < other[i];
-        }
-    }
-    false
+    compare_keys(one, other).is_lt()
 }
 
 /// Whether a block has entries and their keys ascend, the first of them above the one to its left.

@@ -160,13 +160,20 @@ impl<'a> Layout<'a> {
     fn forward_place(&self) -> Option<u16>
         ensures { result ≡ place_of (types_of self.now) (type_code self.now) TwinForward }
     {
-        if self.prefix == 0 { None } else { Some(2) }
+        match self.dbd.type_of(self.code) {
+            Some(_) => Some(2),
+            None => None,
+        }
     }
 
     fn backward_place(&self) -> Option<u16>
         ensures { result ≡ place_of (types_of self.now) (type_code self.now) TwinBackward }
     {
-        if self.children == 10 { Some(6) } else { None }
+        if self.dbd.keeps_backward(self.code) {
+            Some(6)
+        } else {
+            None
+        }
     }
 
     fn first_place(&self, child: u8) -> Option<u16>
