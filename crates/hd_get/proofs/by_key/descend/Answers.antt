@@ -1,4 +1,4 @@
-use Rattle.std.proofs.Common.{◌≡◌, ℕ, ◌+◌, ◌-◌, ◌<◌, ◌≤◌, List, [], ◌∷◌, length, map, slice_index, Bool, true, false, Some, Ok, sym, ap, subst, ◌∙◌, arith}
+use Rattle.std.proofs.Common.{◌≡◌, ℕ, ◌+◌, ◌-◌, ◌<◌, ◌≤◌, List, [], ◌∷◌, length, map, slice_index, Bool, true, false, Some, Ok, refl, sym, ap, subst, ◌∙◌, arith}
 use Rattle.std.specs.Prelude.{◌&&◌, not, option_copied}
 use Rattle.std.proofs.lemmas.Bool.{eqb-true, false≢true}
 use Rattle.hd_volume.proofs.CallSteps.{read-ok, read-none, reads-join}
@@ -107,7 +107,7 @@ loop-place-preserved g c =
         let told = told_before d u c.loop-place.volume c.loop-place.invariant.read f c.loop-place.path C.0 (record { sound = at.sound; row = C.1.row }) in
         let J = (c.in_ok-is_equal.ensures.value f C.0 told).below c.in-Some-2.is_equal c.in-Some-2.is in (
           J.0,
-          subst (λ b. HasCome d u f c.args.ssas.now i (c.loop-place.is_named && b) c.go_below.new.path J.0) (sym c.ask_for.ensures)
+          subst (λ b. HasCome d u f c.args.ssas.now i (c.loop-place.is_named && b) c.go_below.new.path J.0) (sym c.ask_for-is_named.ensures)
           (subst (λ b. HasCome d u f c.args.ssas.now i (b && ask_for d.types c.args.ssas.now c.code-code.result c.in-Some.key.now) c.go_below.new.path J.0) (and_true c.loop-place.is_named)
           (further d u (c.requires.of at.sound) f c.args.ssas.now c.requires.descend C.0 c.loop-place.above c.loop-place.path C.1.row (c.loop-place.invariant.code at.sound) c.code-code.result
           c.in-Some.key.now key c.go_below.new.path J.0 J.1 J.2 c.loop-place.place c.index-ssas-place.result c.loop-place-test.true c.index-ssas-place.is c.code-code.ensures i

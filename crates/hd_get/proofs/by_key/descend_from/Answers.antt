@@ -1,5 +1,5 @@
 use Rattle.std.proofs.Common.{◌≡◌, ℕ, ◌<◌, List, [], ◌∷◌, length, Bool, true, false, refl, sym, ap, subst, ◌∙◌, arith, inl, inr}
-use Rattle.std.specs.Prelude.{◌==◌, not}
+use Rattle.std.specs.Prelude.{◌==◌}
 use Rattle.std.proofs.lemmas.Bool.{cases_lt, eq-eqb, false≢true}
 use Rattle.hd_volume.proofs.CallSteps.{read-ok, reads-join}
 use Rattle.hd_links.specs.Steps.{rows_of}
@@ -73,10 +73,6 @@ descend-requires-clause-root g c =
     let G = grounds d u H.0 (c.requires.of sound) R.0.holds in
     tip_code d.types (links_of d.types u) H.0 G c.in_ok-path.path (root_from d.types (rows_of H.0) c.args.key.now) R.0 ∙ R.1))
 
-not_false : (b : Bool) → not b ≡ false → b ≡ true
-not_false true e = refl
-not_false false e = cc
-
 pub returns-then-not-branch-clause-read : goal.returns-then-not-branch-clause-read
 returns-then-not-branch-clause-read g c = reads-join _ c.in_ok-path.ensures.read (read-ok _ c.in_ok-admits_last.ensures.read)
 
@@ -108,4 +104,4 @@ returns-clause-begins g c f test sound holds named =
     let same_0 = after-read d u c.root_from.new.volume c.in_ok-path.ensures.read sound in
     begins_below d u f holds test ssas named (some_first ssas c.requires.first) n (none_before d u f holds ssas key c.requires.below) c.descend.new.path c.in_ok-is_named.is_named
     (record { number = L.number; later = L.later; none = L.none; row = subst (λ m. IsOnRow d.types m f c.descend.new.path L.number) (same.links ∙ same_0.links) L.row; named = L.named })
-    (root_admitted d u f holds ssas key R.0.within (sym (c.in_ok-admits_last.ensures.value f n at_1) ∙ not_false _ c.if-not-branch.false))
+    (root_admitted d u f holds ssas key R.0.within (sym (c.in_ok-admits_last.ensures.value f n at_1) ∙ c.if-not-branch.false))
