@@ -1,4 +1,4 @@
-ghost use Rattle.std.specs.Prelude.{◌≡◌, ◌<◌, ◌≤◌, ◌+◌, ◌++◌, true, length, take, unwrap_or, replicate, codes, decimal, OnOk};
+ghost use Rattle.std.specs.Prelude.{◌≡◌, ◌<◌, ◌≤◌, ◌+◌, ◌++◌, ◌*◌, length, take, drop, nat_le, unwrap_or, replicate, codes, decimal, true, OnOk};
 ghost use Rattle.std.specs.List.{list_all};
 ghost use Rattle.std.specs.Io.KnownBytes.{Appends};
 ghost use Rattle.hd_dbd.specs.Logs.{replied};
@@ -12,11 +12,15 @@ use itoa::Buffer;
 use std::io::Write;
 use thiserror::Error;
 
-/// The bytes of a line that goes out in one write: a number has at most 40, and head, place and the words between have 36.
+/// The bytes of a line that goes out in one write: a number has at most 40, head, place and the words between have 36, and the last block that is looked at
+/// goes past the area.
 const LINE_ROOM: usize = 256;
 
 /// The bytes that key and area have together at most in such a line.
-const SHORT: usize = 180;
+const SHORT: usize = 168;
+
+/// The bytes of a line that are looked at at once.
+const BLOCK: usize = 16;
 
 /// A write failed. How much went out before it is not known.
 #[derive(Clone, Copy, Debug, Drop, PartialEq, Eq, Error)]
@@ -135,12 +139,12 @@ fn two_digits(number: u8) -> [u8; 2]
 }
 
 /// A segment's name, and blanks where there is none.
-fn segment_text(segment: &Option<Name8>) -> &[u8; 8]
-    ensures { result.now ≡ unwrap_or segment.now (replicate 8 32) }
+fn segment_text(segment: &Option<Name8>) -> [u8; 8]
+    ensures { result ≡ unwrap_or segment.now (replicate 8 32) }
 {
     match segment {
-        Some(name) => name.bytes(),
-        None => b"        ",
+        Some(name) => *name.bytes(),
+        None => *b"        ",
     }
 }
 
@@ -150,7 +154,7 @@ fn place_bytes(status: Status, level: u8, segment: &Option<Name8>) -> [u8; 22]
 {
     let [s, t] = *status_text(status);
     let [tens, ones] = two_digits(level);
-    let [a, b, c, d, e, f, g, h] = *segment_text(segment);
+    let [a, b, c, d, e, f, g, h] = segment_text(segment);
     [
         b' ', b'[', s, t, b']', b' ', tens, ones, b' ', a, b, c, d, e, f, g, h, b' ', b'k', b'e',
         b'y', b'=',
@@ -189,39 +193,67 @@ fn add(line: &mut [u8; LINE_ROOM], end: usize, bytes: &[u8]) -> usize
     behind
 }
 
-/// Whether a key and an area go out in one write with what stands beside them: both are short, and printed as they are.
-fn is_short(key: &[u8], area: &[u8]) -> bool
-    ensures room { result ≡ true → length key.now + length area.now ≤ SHORT }
-    ensures key { result ≡ true → shown key.now ≡ key.now }
-    ensures area { result ≡ true → shown area.now ≡ area.now }
+/// Whether a key and an area have room in one write with what stands beside them.
+fn are_short(key: &[u8], area: &[u8]) -> bool
+    ensures { result ≡ nat_le (length key.now + length area.now) SHORT }
 {
-    let room = SHORT.saturating_sub(key.len());
-    if key.len() > SHORT || area.len() > room {
-        return false;
-    }
-    are_plain(key) && are_plain(area)
+    key.len() <= SHORT && area.len() <= SHORT - key.len()
 }
 
-/// Writes the line of an answer with a short key and area in one write.
+/// Whether the bytes of so many blocks, from a place of a line on, are printed as they are.
+fn are_blocks_plain(line: &[u8; LINE_ROOM], start: usize, blocks: usize) -> bool
+    requires { start + 16 * blocks ≤ 256 }
+    ensures { result ≡ list_all is_plain (take (16 * blocks) (drop start line.now)) }
+{
+    let mut plain = true;
+    for block in 0..blocks {
+        let first = start + BLOCK * block;
+        plain &= are_plain(&line[first..first + BLOCK]);
+    }
+    plain
+}
+
+/// Writes the line of an answer part by part.
+fn put_parts<W: Write>(
+    out: &mut W,
+    number: u64,
+    pcb: u8,
+    function: &[u8; 4],
+    answer: &Answer,
+    io: &IoArea,
+) -> Result<(), WriteFault>
+    ensures { OnOk result (Appends (W.contents out.old) (W.contents out.new)
+        (head_text number pcb function.now ++ outcome_text (replied (reply_of answer.now io.now)))) }
+{
+    put_head(out, number, pcb, function)?;
+    put_answer(out, answer, io)
+}
+
+/// Writes the line of an answer with a short key and area for a PCB of one digit: in one write, where both are printed as they are.
 fn put_short<W: Write>(
     out: &mut W,
     number: u64,
-    head: &[u8; 7],
-    place: &[u8; 22],
-    key: &[u8],
-    area: &[u8],
+    pcb: u8,
+    function: &[u8; 4],
+    answer: &Answer,
+    io: &IoArea,
 ) -> Result<(), WriteFault>
-    requires room { length key.now + length area.now ≤ SHORT }
+    requires pcb { pcb < 10 }
+    requires room { length io.now.key + length io.now.area ≤ SHORT }
     ensures { OnOk result (Appends (W.contents out.old) (W.contents out.new)
-        (decimal number ++ head.now ++ place.now ++ key.now ++ codes " area=" ++ area.now ++ codes "\n")) }
+        (head_text number pcb function.now ++ outcome_text (replied (reply_of answer.now io.now)))) }
 {
-    let mut line = [0u8; LINE_ROOM];
+    let mut line = [b' '; LINE_ROOM];
+    let place = place_bytes(answer.status, answer.level, &answer.segment);
     let end = add(&mut line, 0, Buffer::new().format(number).as_bytes());
-    let end = add(&mut line, end, head);
-    let end = add(&mut line, end, place);
-    let end = add(&mut line, end, key);
+    let end = add(&mut line, end, &short_head(pcb, function));
+    let start = add(&mut line, end, &place);
+    let end = add(&mut line, start, io.key());
     let end = add(&mut line, end, b" area=");
-    let end = add(&mut line, end, area);
+    let end = add(&mut line, end, io.area());
+    if !are_blocks_plain(&line, start, (end - start) / BLOCK + 1) {
+        return put_parts(out, number, pcb, function, answer, io);
+    }
     let end = add(&mut line, end, b"\n");
     put(out, &line[..end])
 }
@@ -239,13 +271,10 @@ pub fn print_answer<W: Write>(
     ensures { OnOk result (Appends (W.contents out.old) (W.contents out.new)
         (head_text number pcb function.now ++ outcome_text (replied (reply_of answer.now io.now)))) }
 {
-    let (key, area) = (io.key(), io.area());
-    if pcb < 10 && is_short(key, area) {
-        let place = place_bytes(answer.status, answer.level, &answer.segment);
-        return put_short(out, number, &short_head(pcb, function), &place, key, area);
+    if pcb < 10 && are_short(io.key(), io.area()) {
+        return put_short(out, number, pcb, function, answer, io);
     }
-    put_head(out, number, pcb, function)?;
-    put_answer(out, answer, io)
+    put_parts(out, number, pcb, function, answer, io)
 }
 
 fn refused_text(refused: Refused) -> &'static [u8]

@@ -6,7 +6,7 @@ pub returns : goal.returns
 returns c =
     let s : List ℕ = c.status_text.result.now in
     let d : List ℕ = c.two_digits.result in
-    let n : List ℕ = c.segment_text.result.now in
+    let n : List ℕ = c.segment_text.result in
     let two : length s ≡ 2 = search rules in
     let two' : length d ≡ 2 = search rules in
     let eight : length n ≡ 8 = search rules in
