@@ -1,5 +1,5 @@
 use Rattle.std.proofs.Common.{◌≡◌, ℕ, ◌+◌, ◌-◌, ◌<◌, ◌≤◌, List, [], ◌∷◌, length, map, slice_index, Bool, true, false, Some, Ok, refl, sym, ap, subst, ◌∙◌, arith}
-use Rattle.std.specs.Prelude.{◌&&◌, not, option_copied}
+use Rattle.std.specs.Prelude.{◌&&◌, option_copied}
 use Rattle.std.proofs.lemmas.Bool.{eqb-true, false≢true}
 use Rattle.hd_volume.proofs.CallSteps.{read-ok, read-none, reads-join}
 use Rattle.hd_links.specs.Links.{is_child_type}
@@ -91,10 +91,6 @@ and_true : (b : Bool) → (b && true) ≡ b
 and_true true = refl
 and_true false = refl
 
-not_false : (b : Bool) → not b ≡ false → b ≡ true
-not_false true e = refl
-not_false false e = cc
-
 pub loop-place-preserved : goal.loop-place-preserved
 loop-place-preserved g c =
     let d = c.args.dbd.now in
@@ -111,7 +107,7 @@ loop-place-preserved g c =
           (subst (λ b. HasCome d u f c.args.ssas.now i (b && ask_for d.types c.args.ssas.now c.code-code.result c.in-Some.key.now) c.go_below.new.path J.0) (and_true c.loop-place.is_named)
           (further d u (c.requires.of at.sound) f c.args.ssas.now c.requires.descend C.0 c.loop-place.above c.loop-place.path C.1.row (c.loop-place.invariant.code at.sound) c.code-code.result
           c.in-Some.key.now key c.go_below.new.path J.0 J.1 J.2 c.loop-place.place c.index-ssas-place.result c.loop-place-test.true c.index-ssas-place.is c.code-code.ensures i
-          c.loop-place.is_named true C.1 (λ e. J.3 (not_false c.in-Some-2.is_equal c.if-not-is_equal.false)))),
+          c.loop-place.is_named true C.1 (λ e. J.3 c.if-not-is_equal.false))),
         ));
       code = λ sound. (
         let T = c.requires.there sound in
