@@ -11,15 +11,11 @@ use crate::pointer::Pointer;
 use hd_bytes::{read_u32, write_bytes, write_u32};
 use hd_dbd::Dbd;
 
-/// Where the fields of a type's segments stand: a view over what the database keeps of the type. How long the prefix is, and where its pointers to children begin, is looked up once.
+/// Where the fields of a type's segments stand: a view over what the database keeps of the type.
 #[derive(Clone, Copy)]
 pub struct Layout<'a> {
     dbd: &'a Dbd,
     code: u8,
-    prefix: u16,
-    children: u16,
-    ghost prefixed: { prefix ≡ prefix_length dbd.now.types code },
-    ghost behind: { children ≡ twins_end dbd.now.types code },
 }
 
 impl<'a> Layout<'a> {
@@ -31,19 +27,14 @@ impl<'a> Layout<'a> {
         ensures types { types_of result ≡ dbd.now.types }
         ensures code { type_code result ≡ code }
     {
-        Layout {
-            dbd,
-            code,
-            prefix: dbd.prefix_length(code),
-            children: twins_end(dbd, code),
-        }
+        Layout { dbd, code }
     }
 
     /// The bytes of a prefix: code, delete byte and pointers; 0 for no type.
     pub fn prefix_length(&self) -> u16
         ensures { result ≡ prefix_length (types_of self.now) (type_code self.now) }
     {
-        self.prefix
+        self.dbd.prefix_length(self.code)
     }
 
     /// Whether a stored segment has its prefix and all of its own bytes.
@@ -102,7 +93,7 @@ impl<'a> Layout<'a> {
     {
         let _types = self.dbd.types();
         let end = self.prefix_length() as usize;
-        let mut place = self.children as usize;
+        let mut place = twins_end(self.dbd, self.code) as usize;
         while place < end {
             if read_u32(segment, place) != 0 {
                 return false;

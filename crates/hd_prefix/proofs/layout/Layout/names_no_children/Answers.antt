@@ -9,7 +9,7 @@ pub loop-place-init : goal.loop-place-init
 loop-place-init c =
     let types : List SegmentType = c.args.self.now.dbd.now.types in
     let code : ℕ = c.args.self.now.code in
-    let at : c.args.self.now.children ≡ twins_end types code = c.args.self.now.behind in
+    let at : c.twins_end-place.result ≡ twins_end types code = c.twins_end-place.ensures in
     record {
       begins = omega arith;
       zeros = λ i low high. absurd (omega arith);
