@@ -58,7 +58,7 @@ AreBelowIn places block start key (suc n) p =
     × (is_below_in places block start key (twin_in places block start n p) ≡ true)
 
 -- A walk along the twins of a block from p, before which another stands, passed over some whose keys are below a key: one at least, where p
--- is in the block and it did not find one whose key is not.
+-- is in the block and it did not find one whose key is not. Where it tells that the key of the one it found is equal, it is.
 pub record IsWalk (places : TwinPlaces) (block : List ℕ) (start : ℕ) (key : List ℕ) (other p : ℕ) (walk : Walk) : Type 0 where
   pub steps : ℕ
   pub below : AreBelowIn places block start key steps p

@@ -128,11 +128,11 @@ fn pass_on(
     }
 }
 
-/// The walk, and whether the key where it ends was found to be equal.
-fn told(places: TwinPlaces, block: &[u8], start: u32, key: &[u8], walk: Walk) -> Walk
+/// The walk, with whether the key where it ends is equal.
+fn with_equality(places: TwinPlaces, block: &[u8], start: u32, key: &[u8], walk: Walk) -> Walk
     requires ends { walk.is_found ≡ true → HasTwin places block.now start walk.twin }
     ensures same { result ≡ record walk { is_equal = result.is_equal } }
-    ensures equal { result.is_equal ≡ true → (walk.is_found ≡ true) × (key_in places block.now start walk.twin ≡ key.now) }
+    ensures equal { (result.is_equal ≡ true) ↔ ((walk.is_found ≡ true) × (key_in places block.now start walk.twin ≡ key.now)) }
 {
     if !walk.is_found {
         return Walk {
@@ -168,5 +168,5 @@ pub fn pass_in(
         }
         None => pass_on(places, block, start, behind, address, key, 0, 0),
     };
-    told(places, block, start, key, walk)
+    with_equality(places, block, start, key, walk)
 }

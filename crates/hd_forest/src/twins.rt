@@ -61,7 +61,7 @@ pub fn forward_in(places: TwinPlaces, segment: &[u8]) -> u32
     read_u32(segment, place)
 }
 
-/// The twins around a key: the last whose key is below, and the first whose key is not, 0 for none, and whether that one's was found to be equal.
+/// The twins around a key: the last whose key is below, and the first whose key is not, 0 for none, and whether that one's key was found to be equal.
 #[derive(Clone, Copy, Debug)]
 pub struct TwinsAround {
     pub before: u32,

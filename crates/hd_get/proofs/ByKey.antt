@@ -24,7 +24,7 @@ use Rattle.hd_calls.specs.Satisfies.{is_named}
 use Rattle.hd_calls.proofs.Searches.{skipped}
 use Rattle.hd_calls.specs.Admits.{NonePass, AreRowsOf, admits, all_admitted}
 use Rattle.hd_dbd.proofs.RowPaths.{path_follows}
-use Rattle.hd_get.specs.Descents.{LeadsBelow}
+use Rattle.hd_get.specs.Descents.{LeadsOnward}
 use Rattle.hd_calls.proofs.OnPaths.{root_code}
 use Rattle.hd_calls.proofs.SearchTwins.{earlier_roots_fail}
 use Rattle.hd_get.specs.Searches.{LeadsWithin, path_within, parent_path}
@@ -137,7 +137,7 @@ module _ (d : Database) (v : VolumeState) (f : Forest Placed) (H : HoldsPlaced d
 
   -- so it may where a path goes down from a row before which none is named
   pub begins_below : (test : ℕ → Bool) (ssas : List Ssa) → AreNamed test d.types (rows_of f) ssas → 0 < length ssas → (i : ℕ) → NonePass (is_named d.types (rows_of f) ssas) 0 i
-      → (path : List ℕ) (told : Bool) → LeadsBelow d v f ssas i told path → all_admitted d.types (rows_of f) ssas i ≡ true → BeginsAt test d v f ssas path told
+      → (path : List ℕ) (told : Bool) → LeadsOnward d v f ssas i told path → all_admitted d.types (rows_of f) ssas i ≡ true → BeginsAt test d v f ssas path told
   begins_below test ssas named some i before path told L all = record {
     number = L.number;
     same = skipped test 0 L.number (length (rows_of f)) (omega arith) (λ j low high. unnamed test ssas named some j (elim (cases_lt j i) [

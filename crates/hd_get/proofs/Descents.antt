@@ -40,7 +40,7 @@ use Rattle.hd_calls.proofs.SearchWays.{first_children, down_of, on_way_all}
 use Rattle.hd_get.specs.Asking.{least_key_of, is_from, address_from}
 use Rattle.hd_ssa.proofs.EqualKeys.{qualifies_by_key}
 use Rattle.hd_ssa.specs.EqualKeys.{key_asked}
-use Rattle.hd_get.specs.Descents.{least_child_key, IsChildFrom, key_asked_of, asks_for, ask_for, LeadsBelow}
+use Rattle.hd_get.specs.Descents.{least_child_key, IsChildFrom, key_asked_of, asks_for, ask_for, LeadsOnward}
 use Rattle.hd_get.proofs.Spans.{child_is, parent_span, one_option}
 use Rattle.hd_get.proofs.Climbs.{path_is}
 use Rattle.hd_get.proofs.Grounds.{held_rows, grounds, tip_code}
@@ -284,7 +284,7 @@ module _ (d : Database) (v : VolumeState) (of : IsVolumeOf d v) (f : Forest Plac
 
 -- behind the last argument the row is named, where all on its path are admitted
 pub come_to_last : (d : Database) (v : VolumeState) → IsVolumeOf d v → (f : Forest Placed) (ssas : List Ssa) → Descend d.types None ssas → (i : ℕ) (told : Bool) (path : List ℕ) (n : ℕ)
-    → HasCome d v f ssas i told path n → (links_of d.types v).code (tip path) ≡ target_code ssas → LeadsBelow d v f ssas i told path
+    → HasCome d v f ssas i told path n → (links_of d.types v).code (tip path) ≡ target_code ssas → LeadsOnward d v f ssas i told path
 come_to_last d v of f ssas descend i told path n come code =
     let G = grounds d v f of come.row.holds in
     let own : (row_at (rows_of f) n).code ≡ target_code ssas = sym (tip_code d.types (links_of d.types v) f G path n come.row) ∙ code in
@@ -298,5 +298,5 @@ come_to_last d v of f ssas descend i told path n come code =
     }
 
 -- on the way nothing is told
-pub come_so_far : (d : Database) (v : VolumeState) (f : Forest Placed) (ssas : List Ssa) (i : ℕ) (told : Bool) (path : List ℕ) (n : ℕ) → HasCome d v f ssas i told path n → LeadsBelow d v f ssas i false path
+pub come_so_far : (d : Database) (v : VolumeState) (f : Forest Placed) (ssas : List Ssa) (i : ℕ) (told : Bool) (path : List ℕ) (n : ℕ) → HasCome d v f ssas i told path n → LeadsOnward d v f ssas i false path
 come_so_far d v f ssas i told path n come = record { number = n; later = come.later; none = come.none; row = come.row; named = λ e all. absurd (false≢true e) }

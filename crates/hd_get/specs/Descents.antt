@@ -33,39 +33,40 @@ pub record IsChildFrom (types : List SegmentType) (f : Forest Placed) (key : Lis
   pub is_first : first_child types (rows_of f) code i ≡ Some first
   pub from : first_from (is_from types (rows_of f) key first) first (length (rows_of f)) ≡ Some j
 
--- A path went down from row i to the first child whose key is not below a key, and whether it is equal was told, or it stayed.
+-- A path went down from row i to its first child of a type whose key is not below a key, where one is told of: that its key is equal only where
+-- it is. Where none is told of, the path stayed.
 pub record IsGoneBelow (types : List SegmentType) (f : Forest Placed) (key : List ℕ) (i code : ℕ) (old : List ℕ) (r : Option Bool) (new : List ℕ) : Type 0 where
   pub below : (e : Bool) → r ≡ Some e → (j : ℕ) × IsChildFrom types f key i code j × (new ≡ path_at types f j) × (e ≡ true → key_of types (row_at (rows_of f) j) ≡ key)
   pub stays : r ≡ None → new ≡ old
 
--- so did it wherever it was that of a row
+-- wherever the old path was that of a row, the new one went down from it, or stayed
 abbrev pub GoesBelow : Database → VolumeState → List ℕ → ℕ → List ℕ → Option Bool → List ℕ → Type 0
 GoesBelow d v key code old r new = (f : Forest Placed) (i : ℕ) → IsPathOf d v f old i → IsGoneBelow d.types f key i code old r new
 
--- the key that an argument asks its type's segments for, where it asks for that and nothing else
+-- the key that an argument's qualification asks its type's segments for, where it asks for nothing else; L aside
 abbrev pub key_asked_of : List SegmentType → Ssa → Option (List ℕ)
 key_asked_of types a = option_and_then (λ t. option_and_then (λ k. key_asked k a) t.key) (type_of types a.code)
 
--- an argument asks for a key and nothing else, not even for the last of its twins
+-- an argument asks for a key, and neither its qualification nor L for anything else
 abbrev pub asks_for : List SegmentType → List ℕ → Ssa → Bool
 asks_for types key a = not a.commands.last && option_map_or (λ v. is_eq (slice_cmp nat_cmp v key)) (key_asked_of types a) false
 
--- so do those of a type
+-- so does each argument of a type
 abbrev pub ask_for : List SegmentType → List Ssa → ℕ → List ℕ → Bool
 ask_for types ssas code key = list_all (λ a. not (a.code == code) || asks_for types key a) ssas
 
--- The path is that of row i or of a later one, and from row i on none before it is named by the SSAs. Where so much is told, it is named, if all
--- on row i's path are admitted.
-pub record LeadsBelow (d : Database) (v : VolumeState) (f : Forest Placed) (ssas : List Ssa) (i : ℕ) (is_named_ : Bool) (path : List ℕ) : Type 0 where
+-- The path is that of row i or of a later one, and of the rows from row i on none before it is named by the SSAs. Where it is told that they name
+-- it, they do, if all on row i's path are admitted.
+pub record LeadsOnward (d : Database) (v : VolumeState) (f : Forest Placed) (ssas : List Ssa) (i : ℕ) (told : Bool) (path : List ℕ) : Type 0 where
   pub number : ℕ
   pub later : i ≤ number
   pub none : NonePass (is_named d.types (rows_of f) ssas) i number
   pub row : IsOnRow d.types (links_of d.types v) f path number
-  pub named : is_named_ ≡ true → all_admitted d.types (rows_of f) ssas i ≡ true → is_named d.types (rows_of f) ssas number ≡ true
+  pub named : told ≡ true → all_admitted d.types (rows_of f) ssas i ≡ true → is_named d.types (rows_of f) ssas number ≡ true
 
--- wherever a path was that of a row, it leads below that row
-abbrev pub DescendsTo : Database → VolumeState → List Ssa → List ℕ → Bool → List ℕ → Type 0
-DescendsTo d v ssas old told new = (f : Forest Placed) (i : ℕ) → IsPathOf d v f old i → LeadsBelow d v f ssas i told new
+-- wherever the old path was that of a row, the new one leads on from it
+abbrev pub GoesOnward : Database → VolumeState → List Ssa → List ℕ → Bool → List ℕ → Type 0
+GoesOnward d v ssas old told new = (f : Forest Placed) (i : ℕ) → IsPathOf d v f old i → LeadsOnward d v f ssas i told new
 
 -- the first SSA is the root's
 abbrev pub is_root_first : List Ssa → Bool
@@ -73,5 +74,5 @@ is_root_first [] = false
 is_root_first (a ∷ ssas) = a.code == 1
 
 -- wherever the path is that of a row, the answer says whether that meets the arguments of its type
-abbrev pub AdmitsLast : Database → VolumeState → List Ssa → List ℕ → Bool → Type 0
-AdmitsLast d v ssas path r = (f : Forest Placed) (i : ℕ) → IsPathOf d v f path i → r ≡ admits d.types (rows_of f) ssas i
+abbrev pub AdmitsTip : Database → VolumeState → List Ssa → List ℕ → Bool → Type 0
+AdmitsTip d v ssas path r = (f : Forest Placed) (i : ℕ) → IsPathOf d v f path i → r ≡ admits d.types (rows_of f) ssas i

@@ -79,8 +79,8 @@ LeadsToRoot d v key path =
 abbrev pub AreNamed : (ℕ → Bool) → List SegmentType → List Segment → List Ssa → Type 0
 AreNamed test types rows ssas = (j : ℕ) → 0 < length ssas → test j ≡ true → is_named types rows ssas j ≡ true
 
--- The search for the first row that passes a test may as well begin where the path leads: none before that passes. Where so much is told, there is
--- a row, and the SSAs name it.
+-- The search for the first row that passes a test may as well begin where the path leads, since none before that passes. Where it is told that the
+-- SSAs name the row there, there is one, and they do.
 pub record BeginsAt (test : ℕ → Bool) (d : Database) (v : VolumeState) (f : Forest Placed) (ssas : List Ssa) (path : List ℕ) (told : Bool) : Type 0 where
   pub number : ℕ
   pub same : first_from test 0 (length (rows_of f)) ≡ first_from test number (length (rows_of f))

@@ -7,7 +7,7 @@ ghost use Rattle.hd_forest.specs.Walks.{tip};
 ghost use Rattle.hd_calls.specs.Admits.{Descend};
 ghost use Rattle.hd_get.specs.Searches.{IsOf, IsThere};
 ghost use Rattle.hd_get.specs.Starts.{least_root_key, HasRoots, LeadsToRoot, BeginsUnique, RefusesRootsBelow};
-ghost use Rattle.hd_get.specs.Descents.{least_child_key, GoesBelow, key_asked_of, asks_for, ask_for, DescendsTo, AdmitsLast, is_root_first};
+ghost use Rattle.hd_get.specs.Descents.{least_child_key, GoesBelow, key_asked_of, asks_for, ask_for, GoesOnward, AdmitsTip, is_root_first};
 
 use crate::arguments::least_key_of;
 use crate::look::{admits_seen, look_at};
@@ -57,8 +57,8 @@ fn least_child_key<'a>(dbd: &Dbd, ssas: &[ResolvedSsa<'a>], above: u8, code: u8)
     least_key_of(dbd, ssas, code)
 }
 
-/// Goes down from the last row of a path to its first child, of the type of a code, whose key is not below a key, and says whether it is equal;
-/// `None` where there is no such child. The blocks of the twins up to that one are read.
+/// Goes down from the last row of a path to its first child, of the type of a code, whose key is not below a key, and says whether its key is equal;
+/// `None` where there is no such child, and where the type has no key. The row is read, and the blocks of the twins up to that child.
 fn go_below<S: BlockStore>(
     volume: &mut Volume<S>,
     dbd: &Dbd,
@@ -88,7 +88,7 @@ fn go_below<S: BlockStore>(
     Ok(Some(around.is_equal))
 }
 
-/// Whether an argument asks for a key and nothing else, not even for the last of its twins.
+/// Whether an argument asks for a key, and neither its qualification nor L for anything else.
 fn asks_for(dbd: &Dbd, ssa: &ResolvedSsa<'_>, key: &[u8]) -> bool
     ensures { result ≡ asks_for dbd.now.types key.now ssa.now }
 {
@@ -101,7 +101,7 @@ fn asks_for(dbd: &Dbd, ssa: &ResolvedSsa<'_>, key: &[u8]) -> bool
     }
 }
 
-/// The key that an argument asks its type's segments for, where it asks for that and nothing else.
+/// The key that an argument's qualification asks its type's segments for, where it asks for nothing else; L aside.
 fn key_asked_of<'a>(dbd: &Dbd, ssa: &ResolvedSsa<'a>) -> Option<&'a [u8]>
     ensures { option_copied result ≡ key_asked_of dbd.now.types ssa.now }
 {
@@ -109,7 +109,7 @@ fn key_asked_of<'a>(dbd: &Dbd, ssa: &ResolvedSsa<'a>) -> Option<&'a [u8]>
     ssa.key_asked(own.key?)
 }
 
-/// Whether the arguments of the type of a code ask for a key and nothing else.
+/// Whether each argument of the type of a code asks for a key, and for nothing else.
 fn ask_for(dbd: &Dbd, ssas: &[ResolvedSsa<'_>], code: u8, key: &[u8]) -> bool
     ensures { result ≡ ask_for dbd.now.types ssas.now code key.now }
 {
@@ -117,9 +117,9 @@ fn ask_for(dbd: &Dbd, ssas: &[ResolvedSsa<'_>], code: u8, key: &[u8]) -> bool
         .all(|ssa| ssa.code() != code || asks_for(dbd, ssa, key))
 }
 
-/// Goes down from a root along the types of the arguments, each to the first child whose key is not below the least that its argument tells of, as
-/// far as each type is a child type of the one before it, a key is told of, there is such a child, and its key is that one; what has another key is
-/// the last to which it goes. Says whether all was gone by, and each argument below the root's asks for the key that was found and nothing else.
+/// Goes down from a root, argument by argument, to the first child whose key is not below the least that the argument asks for. It stops behind a child
+/// of another key, and where a type is left out, an argument tells of no key, or there is no such child. Says whether the arguments are known to name
+/// the row where it came, if the root meets its own: each was gone by, and asks for the key that was found and nothing else.
 fn descend<S: BlockStore>(
     volume: &mut Volume<S>,
     dbd: &Dbd,
@@ -132,7 +132,7 @@ fn descend<S: BlockStore>(
     requires there { IsThere dbd.now volume.old path.old }
     requires root { IsTrue volume.old.is_sound → (links_of dbd.now.types volume.old).code (tip path.old) ≡ 1 }
     ensures read { IsRead volume.old result volume.new }
-    ensures value { IfOk result (λ r. DescendsTo dbd.now volume.old ssas.now path.old r path.new) }
+    ensures value { IfOk result (λ r. GoesOnward dbd.now volume.old ssas.now path.old r path.new) }
     ensures refusal { OnlyDevice result }
 {
     let mut above = 1;
@@ -155,7 +155,7 @@ fn descend<S: BlockStore>(
 }
 
 /// Whether the last row of a path meets the arguments of its type. One access, and more only where one of these has L and is not the root's.
-fn admits_last<S: BlockStore>(
+fn admits_tip<S: BlockStore>(
     volume: &mut Volume<S>,
     dbd: &Dbd,
     ssas: &[ResolvedSsa<'_>],
@@ -164,7 +164,7 @@ fn admits_last<S: BlockStore>(
     requires of { IsOf dbd.now volume.old }
     requires there { IsThere dbd.now volume.old path.now }
     ensures read { IsRead volume.old result volume.new }
-    ensures value { IfOk result (λ r. AdmitsLast dbd.now volume.old ssas.now path.now r) }
+    ensures value { IfOk result (λ r. AdmitsTip dbd.now volume.old ssas.now path.now r) }
     ensures refusal { OnlyDevice result }
 {
     let look = look_at(volume, dbd, ssas, tip_of(path))?;
@@ -192,17 +192,18 @@ fn descend_from<S: BlockStore>(
     if path.addresses().is_empty() {
         return Ok((path, false));
     }
-    if !admits_last(volume, dbd, ssas, &path)? {
+    if !admits_tip(volume, dbd, ssas, &path)? {
         return Ok((path, false));
     }
     let is_named = descend(volume, dbd, ssas, &mut path)?;
     Ok((path, is_named))
 }
 
-/// The path of the row where GU begins, empty where no root is left, and whether the arguments are known to name that row: where the root's
-/// argument tells of a least key, the first root whose key is not below it, which the index has, and from there down as far as the arguments tell
-/// of keys that are found; else the first root. No row before it is named. One block of each level of the index is read, the root, and the twins passed over on
-/// each level below; or one row.
+/// The path of the row where GU begins, empty where no root is left, and whether the arguments are known to name that row; none before it is named.
+/// Where the root's argument tells of a least key, it is the first root whose key is not below that, which the index has, and, if this meets its
+/// arguments, from there down as far as the arguments tell of keys and such are found, or one child further; else it is the first root.
+///
+/// One block of each level of the index is read, the root, and below it the twins that are passed over and each row that is gone down from; or one row.
 pub fn unique_by_key<S: BlockStore>(
     volume: &mut Volume<S>,
     dbd: &Dbd,

@@ -17,7 +17,7 @@ use hd_volume::Volume;
 
 /// The path of the first row that arguments name, as by GU, whether a PCB may read it or not; `None` where there is none, and without
 /// arguments. What is read is what a GU with these arguments reads: by the root's key a block of each level of the index and the root
-/// found there, and below it the twins of each type on the way, up to the first whose key is past what is asked.
+/// found there, and below it the twins of each type on the way, up to the first that has the key that is asked for, or whose key is past it.
 pub fn first_named<S: BlockStore>(
     volume: &mut Volume<S>,
     dbd: &Dbd,

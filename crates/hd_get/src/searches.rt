@@ -122,8 +122,8 @@ fn reads_target(dbd: &Dbd, call: &Get<'_>) -> bool
     may(dbd, call.pcb, Access::Get, target_code(call.ssas))
 }
 
-/// The path of the row that a GU seeks, if there is one. Where its arguments ask for keys, each of its parent's type, and nothing else, the path down
-/// by them is that of the row, and no row is judged but the root.
+/// The path of the row that a GU seeks, if there is one. Where its arguments leave out no type from the root down, and each below the root's asks for a
+/// key that is found, and for nothing else, no row is judged but the root.
 fn seek_unique<S: BlockStore>(
     volume: &mut Volume<S>,
     dbd: &Dbd,

@@ -52,14 +52,14 @@ are_unqualified ssas = list_all (λ a. is_none a.groups) ssas
 abbrev pub are_steps_down : List SegmentType → List Ssa → Bool
 are_steps_down types ssas = steps_down types None (map (λ a. a.code) ssas)
 
--- An ISRT may have these arguments: no inserted type is qualified, a load inserts one row, and each inserted type is the child of the
+-- An ISRT may have these arguments, which were read down: no inserted type is qualified, a load inserts one row, and each inserted type is the child of the
 -- type just above it.
 abbrev pub suits_insert : Setting → List Ssa → Bool
 suits_insert s ssas =
     are_unqualified (drop (first_inserted ssas) ssas) && (not (loads s.pcb) || nat_le (length ssas) 1)
     && are_steps_down s.types (drop (first_inserted ssas - 1) ssas)
 
--- the function may have these arguments
+-- the function may have these arguments, which were read down
 abbrev pub suits : Setting → Function → List Ssa → Bool
 suits s (Get kind hold) ssas = true
 suits s Insert ssas = suits_insert s ssas

@@ -10,7 +10,7 @@ use Rattle.hd_calls.specs.Satisfies.{qualifies}
 use Rattle.hd_calls.specs.SearchKeys.{is_of_key}
 use Rattle.hd_ssa.specs.Texts.{single_of}
 
--- EQ accepts the value alone
+-- the operator is EQ, which accepts the value alone
 abbrev pub is_equality : Operator → Bool
 is_equality Equal = true
 is_equality AtLeast = false
@@ -23,10 +23,10 @@ is_equality NotEqual = false
 abbrev pub equal_to : Key → Comparison → Option (List ℕ)
 equal_to k c = cond (is_of_key k c && is_equality c.operator) (Some c.value) None
 
--- the value of an SSA's only comparison, where that is so
+-- the value of an SSA's only comparison, where that asks that the whole key is equal to it
 abbrev pub key_asked : Key → Ssa → Option (List ℕ)
 key_asked k a = option_and_then (λ groups. option_and_then (λ c. equal_to k c) (single_of groups)) a.groups
 
--- Each row with that key qualifies.
+-- Each row whose key is the value qualifies.
 abbrev pub QualifiesByKey : Key → Ssa → List ℕ → Type 0
 QualifiesByKey k a value = (r : Segment) → part_of r.bytes k.start k.length ≡ value → qualifies a r ≡ true

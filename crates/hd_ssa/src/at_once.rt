@@ -74,7 +74,8 @@ fn add_read<'a>(
     }
 }
 
-/// The same, where most arguments that are met take few steps: those without command codes and with at most one comparison.
+/// Adds the argument whose text goes on so behind its type's name, if no part of it is refused, and says whether it did. Most that are met take few
+/// steps: those without command codes and with at most one comparison.
 fn add_behind<'a>(
     segment: &'a SegType,
     code: u8,
@@ -125,7 +126,8 @@ fn add_below<'a>(
     }
 }
 
-/// Adds what at most four texts mean, each of which is read whole before the next; says whether no part of one is refused. Which refusal comes first it does not say.
+/// Adds what texts mean, as many as there is room for, each of which is read whole before the next; says whether no part of one is refused. Which
+/// refusal comes first it does not say.
 pub(crate) fn read_down<'a>(
     dbd: &'a Dbd,
     pcb: &Pcb,

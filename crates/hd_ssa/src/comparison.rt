@@ -143,7 +143,7 @@ impl<'a> Comparison<'a> {
     }
 }
 
-/// Whether an operator accepts the value alone.
+/// Whether an operator is EQ, which accepts the value alone.
 fn is_equality(operator: Operator) -> bool
     ensures { result ≡ is_equality operator }
 {

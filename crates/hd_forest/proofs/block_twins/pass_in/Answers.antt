@@ -21,8 +21,8 @@ with_equal places block start key other p walk told W is equal =
 
 pub returns : goal.returns
 returns c =
-    with_equal c.args.places c.args.block.now c.args.start c.args.key.now c.args.behind c.args.address c.match-number.walk c.told.result
+    with_equal c.args.places c.args.block.now c.args.start c.args.key.now c.args.behind c.args.address c.match-number.walk c.with_equality.result
     (elim c.match-number.branch [
       | in-Some w ↦ subst (IsWalk c.args.places c.args.block.now c.args.start c.args.key.now c.args.behind c.args.address) (sym w.walk-is) w.pass_on-walk.ensures
       | in-None w ↦ subst (IsWalk c.args.places c.args.block.now c.args.start c.args.key.now c.args.behind c.args.address) (sym w.walk-is) w.pass_on-walk-in-None.ensures
-    ]) c.told.ensures.same c.told.ensures.equal
+    ]) c.with_equality.ensures.same c.with_equality.ensures.equal.0

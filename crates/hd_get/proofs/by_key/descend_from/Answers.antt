@@ -34,11 +34,11 @@ returns-then-is_empty-clause-begins g c f test sound holds named =
     begins_at d v f holds test c.args.ssas.now named (some_first c.args.ssas.now c.requires.first) c.in_ok-path.path (root_from d.types (rows_of f) c.args.key.now)
     (none_before d v f holds c.args.ssas.now c.args.key.now c.requires.below) (c.in_ok-path.ensures.value f sound holds)
 
-pub admits_last-requires-clause-of : goal.admits_last-requires-clause-of
-admits_last-requires-clause-of g c = volume-kept c.args.dbd.now c.args.volume.now c.root_from.new.volume c.in_ok-path.ensures.read c.requires.of
+pub admits_tip-requires-clause-of : goal.admits_tip-requires-clause-of
+admits_tip-requires-clause-of g c = volume-kept c.args.dbd.now c.args.volume.now c.root_from.new.volume c.in_ok-path.ensures.read c.requires.of
 
-pub admits_last-requires-clause-there : goal.admits_last-requires-clause-there
-admits_last-requires-clause-there g c =
+pub admits_tip-requires-clause-there : goal.admits_tip-requires-clause-there
+admits_tip-requires-clause-there g c =
     let d = c.args.dbd.now in
     let u = c.args.volume.now in
     links-kept d (λ m. IsOnSomeRow d.types m c.in_ok-path.path) u c.root_from.new.volume c.in_ok-path.ensures.read
@@ -48,14 +48,14 @@ admits_last-requires-clause-there g c =
 
 pub descend-requires-clause-of : goal.descend-requires-clause-of
 descend-requires-clause-of g c =
-    volume-kept c.args.dbd.now c.root_from.new.volume c.admits_last.new.volume c.in_ok-admits_last.ensures.read
+    volume-kept c.args.dbd.now c.root_from.new.volume c.admits_tip.new.volume c.in_ok-admits_tip.ensures.read
     (volume-kept c.args.dbd.now c.args.volume.now c.root_from.new.volume c.in_ok-path.ensures.read c.requires.of)
 
 pub descend-requires-clause-there : goal.descend-requires-clause-there
 descend-requires-clause-there g c =
     let d = c.args.dbd.now in
     let u = c.args.volume.now in
-    links-kept d (λ m. IsOnSomeRow d.types m c.in_ok-path.path) c.root_from.new.volume c.admits_last.new.volume c.in_ok-admits_last.ensures.read
+    links-kept d (λ m. IsOnSomeRow d.types m c.in_ok-path.path) c.root_from.new.volume c.admits_tip.new.volume c.in_ok-admits_tip.ensures.read
     (links-kept d (λ m. IsOnSomeRow d.types m c.in_ok-path.path) u c.root_from.new.volume c.in_ok-path.ensures.read
     (λ sound.
     let H = c.requires.holds sound in
@@ -65,7 +65,7 @@ pub descend-requires-clause-root : goal.descend-requires-clause-root
 descend-requires-clause-root g c =
     let d = c.args.dbd.now in
     let u = c.args.volume.now in
-    links-kept d (λ m. m.code (tip c.in_ok-path.path) ≡ 1) c.root_from.new.volume c.admits_last.new.volume c.in_ok-admits_last.ensures.read
+    links-kept d (λ m. m.code (tip c.in_ok-path.path) ≡ 1) c.root_from.new.volume c.admits_tip.new.volume c.in_ok-admits_tip.ensures.read
     (links-kept d (λ m. m.code (tip c.in_ok-path.path) ≡ 1) u c.root_from.new.volume c.in_ok-path.ensures.read
     (λ sound.
     let H = c.requires.holds sound in
@@ -74,7 +74,7 @@ descend-requires-clause-root g c =
     tip_code d.types (links_of d.types u) H.0 G c.in_ok-path.path (root_from d.types (rows_of H.0) c.args.key.now) R.0 ∙ R.1))
 
 pub returns-then-not-branch-clause-read : goal.returns-then-not-branch-clause-read
-returns-then-not-branch-clause-read g c = reads-join _ c.in_ok-path.ensures.read (read-ok _ c.in_ok-admits_last.ensures.read)
+returns-then-not-branch-clause-read g c = reads-join _ c.in_ok-path.ensures.read (read-ok _ c.in_ok-admits_tip.ensures.read)
 
 pub returns-then-not-branch-clause-begins : goal.returns-then-not-branch-clause-begins
 returns-then-not-branch-clause-begins g c f test sound holds named =
@@ -85,7 +85,7 @@ returns-then-not-branch-clause-begins g c f test sound holds named =
 
 pub returns-clause-read : goal.returns-clause-read
 returns-clause-read g c =
-    reads-join _ c.in_ok-path.ensures.read (reads-join _ c.in_ok-admits_last.ensures.read (read-ok _ c.in_ok-is_named.ensures.read))
+    reads-join _ c.in_ok-path.ensures.read (reads-join _ c.in_ok-admits_tip.ensures.read (read-ok _ c.in_ok-is_named.ensures.read))
 
 pub returns-clause-begins : goal.returns-clause-begins
 returns-clause-begins g c f test sound holds named =
@@ -98,10 +98,10 @@ returns-clause-begins g c f test sound holds named =
     let n : ℕ = root_from d.types (rows_of f) key in
     let at : IsPathOf d u f c.in_ok-path.path n = record { sound = sound; row = R.0 } in
     let at_1 = told_before d u c.root_from.new.volume c.in_ok-path.ensures.read f c.in_ok-path.path n at in
-    let at_2 = told_before d c.root_from.new.volume c.admits_last.new.volume c.in_ok-admits_last.ensures.read f c.in_ok-path.path n at_1 in
+    let at_2 = told_before d c.root_from.new.volume c.admits_tip.new.volume c.in_ok-admits_tip.ensures.read f c.in_ok-path.path n at_1 in
     let L = c.in_ok-is_named.ensures.value f n at_2 in
-    let same = after-read d c.root_from.new.volume c.admits_last.new.volume c.in_ok-admits_last.ensures.read at_1.sound in
+    let same = after-read d c.root_from.new.volume c.admits_tip.new.volume c.in_ok-admits_tip.ensures.read at_1.sound in
     let same_0 = after-read d u c.root_from.new.volume c.in_ok-path.ensures.read sound in
     begins_below d u f holds test ssas named (some_first ssas c.requires.first) n (none_before d u f holds ssas key c.requires.below) c.descend.new.path c.in_ok-is_named.is_named
     (record { number = L.number; later = L.later; none = L.none; row = subst (λ m. IsOnRow d.types m f c.descend.new.path L.number) (same.links ∙ same_0.links) L.row; named = L.named })
-    (root_admitted d u f holds ssas key R.0.within (sym (c.in_ok-admits_last.ensures.value f n at_1) ∙ c.if-not-branch.false))
+    (root_admitted d u f holds ssas key R.0.within (sym (c.in_ok-admits_tip.ensures.value f n at_1) ∙ c.if-not-branch.false))

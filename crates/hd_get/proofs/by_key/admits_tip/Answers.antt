@@ -6,7 +6,7 @@ use Rattle.hd_forest.specs.Rows.{IsOnSomeRow}
 use Rattle.hd_forest.proofs.Reading.{links-kept, volume-kept}
 use Rattle.hd_get.specs.Asking.{look_of}
 use Rattle.hd_get.proofs.Grounds.{grounds, tip_is, tip_there, told_before}
-use Rattle.hd_get.proofs.by_key.admits_last.Goals as goal
+use Rattle.hd_get.proofs.by_key.admits_tip.Goals as goal
 
 pub look_at-requires-clause-there : goal.look_at-requires-clause-there
 look_at-requires-clause-there g c sound =
