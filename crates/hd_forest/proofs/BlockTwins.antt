@@ -29,7 +29,7 @@ use Rattle.hd_forest.specs.declared.twins.TwinPlaces.{TwinPlaces}
 use Rattle.hd_forest.specs.declared.block_twins.Walk.{Walk}
 use Rattle.hd_forest.specs.Twins.{IsBehind, is_key_below, IsTwinFrom, IsLastBelow}
 use Rattle.hd_forest.specs.TwinPlaces.{twin_places}
-use Rattle.hd_forest.specs.BlockTwins.{HasTwin, forward_in, key_in, is_below_in, twin_in, twin_before, AreBelowIn, IsWalk, IsWalkFrom}
+use Rattle.hd_forest.specs.BlockTwins.{HasTwin, forward_in, key_in, is_below_in, twin_in, twin_before, AreBelowIn, IsWalk, IsWalkFrom, IsEqualFrom}
 use Rattle.hd_forest.proofs.Chains.{passed}
 use Rattle.hd_forest.proofs.Held.{held}
 use Rattle.hd_forest.proofs.Reading.{lent}
@@ -153,12 +153,12 @@ module _ (d : Database) (v : VolumeState) (f : Forest Placed) (fit : IsDatabase 
         (comes-more (turns + k) b a (forward_in places (block_at v n) (n * v.size) a) G (in-block a below.1).0 (sym T.below ∙ below.2) T.forward)
 
   -- What a walk in a block came to.
-  pub record HasWalked (turns : ℕ) (walk : Walk) : Type 0 where
+  pub record HasWalked (turns twin : ℕ) (walk : Walk) : Type 0 where
     pub steps : ℕ
     pub come : Come (turns + steps) walk.before walk.twin
     pub ends : walk.is_found ≡ true → is_key_below d.types key (segment_at m walk.twin) ≡ false
     pub there : walk.is_found ≡ true → IsSegment m walk.twin
-    pub equal : walk.is_equal ≡ true → (walk.is_found ≡ true) × (key_of d.types (segment_at m walk.twin) ≡ key)
+    pub key_is : walk.is_found ≡ true → key_in places (block_at v (twin / v.size)) (twin / v.size * v.size) walk.twin ≡ key_of d.types (segment_at m walk.twin)
     pub moves : walk.is_found ≡ false → 0 < steps
 
   -- a block has the twin that comes next
@@ -167,7 +167,7 @@ module _ (d : Database) (v : VolumeState) (f : Forest Placed) (fit : IsDatabase 
       let h = segment-found d v twin fit of (H.passed.there some) in find-there v twin 0 of.formatted (record { bytes = h.bytes; is = h.is; long = omega arith })
 
   -- it is walked
-  pub walked-in : (turns before twin : ℕ) (walk : Walk) → Come turns before twin → 0 < twin → IsWalkFrom v places key before twin walk → HasWalked turns walk
+  pub walked-in : (turns before twin : ℕ) (walk : Walk) → Come turns before twin → 0 < twin → IsWalkFrom v places key before twin walk → HasWalked turns twin walk
   walked-in turns before twin walk H some W =
       let n : ℕ = twin / v.size in
       let kind = block-there turns before twin H some in
@@ -178,9 +178,7 @@ module _ (d : Database) (v : VolumeState) (f : Forest Placed) (fit : IsDatabase 
         come = come;
         ends = λ found. sym (said-of n kind (turns + W.steps) walk.before walk.twin come (W.found found).0).below ∙ (W.found found).1;
         there = λ found. come.passed.there (in-block n kind walk.twin (W.found found).0).0;
-        equal = λ same. (
-            let E = W.equal same in
-            (E.0, sym (said-of n kind (turns + W.steps) walk.before walk.twin come (W.found E.0).0).key_is ∙ E.1));
+        key_is = λ found. (said-of n kind (turns + W.steps) walk.before walk.twin come (W.found found).0).key_is;
         moves = λ on. W.moves on (next-of turns before twin H some).there;
       }
 
@@ -208,3 +206,10 @@ pub walk-before : {A : Type 0} {x : A} (u v : VolumeState) (places : TwinPlaces)
 walk-before u v places key other p walk read now W =
     subst (λ (i : List ℕ). IsWalk places (block_of u.size i (p / u.size)) (p / u.size * u.size) key other p walk) (read.image now)
     (subst (λ (s : ℕ). IsWalk places (block_of s v.image (p / s)) (p / s * s) key other p walk) read.call.size W)
+
+-- nor another key
+pub equal-before : {A : Type 0} {x : A} (u v : VolumeState) (places : TwinPlaces) (key : List ℕ) (p : ℕ) (walk : Walk) → IsRead {T = A} u (Ok x) v → IsTrue v.is_sound
+    → IsEqualFrom v places key p walk → IsEqualFrom u places key p walk
+equal-before u v places key p walk read now E =
+    subst (λ (i : List ℕ). (walk.is_found ≡ true) × (key_in places (block_of u.size i (p / u.size)) (p / u.size * u.size) walk.twin ≡ key)) (read.image now)
+    (subst (λ (s : ℕ). (walk.is_found ≡ true) × (key_in places (block_of s v.image (p / s)) (p / s * s) walk.twin ≡ key)) read.call.size E)

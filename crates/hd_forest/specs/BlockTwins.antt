@@ -58,16 +58,19 @@ AreBelowIn places block start key (suc n) p =
     × (is_below_in places block start key (twin_in places block start n p) ≡ true)
 
 -- A walk along the twins of a block from p, before which another stands, passed over some whose keys are below a key: one at least, where p
--- is in the block and it did not find one whose key is not. Where it tells that the key of the one it found is equal, it is.
+-- is in the block and it did not find one whose key is not.
 pub record IsWalk (places : TwinPlaces) (block : List ℕ) (start : ℕ) (key : List ℕ) (other p : ℕ) (walk : Walk) : Type 0 where
   pub steps : ℕ
   pub below : AreBelowIn places block start key steps p
   pub twin : walk.twin ≡ twin_in places block start steps p
   pub before : walk.before ≡ twin_before places block start steps other p
   pub found : walk.is_found ≡ true → HasTwin places block start walk.twin × (is_below_in places block start key walk.twin ≡ false)
-  pub equal : walk.is_equal ≡ true → (walk.is_found ≡ true) × (key_in places block start walk.twin ≡ key)
   pub moves : walk.is_found ≡ false → HasTwin places block start p → 0 < steps
 
 -- such a walk in the block of p
 abbrev pub IsWalkFrom : VolumeState → TwinPlaces → List ℕ → ℕ → ℕ → Walk → Type 0
 IsWalkFrom v places key other p walk = IsWalk places (block_at v (p / v.size)) (p / v.size * v.size) key other p walk
+
+-- a walk in the block of p found a twin whose key is equal
+abbrev pub IsEqualFrom : VolumeState → TwinPlaces → List ℕ → ℕ → Walk → Type 0
+IsEqualFrom v places key p walk = (walk.is_found ≡ true) × (key_in places (block_at v (p / v.size)) (p / v.size * v.size) walk.twin ≡ key)

@@ -10,14 +10,13 @@ use crate::twins::TwinPlaces;
 use hd_bytes::{read_u32, write_bytes};
 use hd_dbd::compare_keys;
 
-/// What a walk along the twins of a block came to: the last that was passed over, the one behind it, 0 for none, whether the key of this was
-/// found not to be below, and then whether it was found to be equal.
+/// What a walk along the twins of a block came to: the last that was passed over, the one behind it, 0 for none, and whether the key of this
+/// was found not to be below.
 #[derive(Clone, Copy, Debug)]
 pub struct Walk {
     pub before: u32,
     pub twin: u32,
     pub is_found: bool,
-    pub is_equal: bool,
 }
 
 /// The number that the first eight bytes make, the highest first.
@@ -71,6 +70,18 @@ fn is_key_at(block: &[u8], place: usize, count: usize, key: &[u8]) -> bool
     &block[place..place + count] == key
 }
 
+/// Whether a walk in a block, whose first byte has an address, found a twin whose key is equal.
+pub fn is_equal(places: TwinPlaces, block: &[u8], start: u32, key: &[u8], walk: Walk) -> bool
+    requires { walk.is_found ≡ true → HasTwin places block.now start walk.twin }
+    ensures { (result ≡ true) ↔ ((walk.is_found ≡ true) × (key_in places block.now start walk.twin ≡ key.now)) }
+{
+    if !walk.is_found {
+        return false;
+    }
+    let place = (walk.twin - start) as usize + places.key;
+    is_key_at(block, place, places.length, key)
+}
+
 /// Whether a block has the twin at an address, with its twin forward and its key.
 fn has_twin(places: TwinPlaces, block: &[u8], start: u32, twin: u32) -> bool
     ensures { (result ≡ true) ↔ HasTwin places block.now start twin }
@@ -105,7 +116,6 @@ fn pass_on(
                 before,
                 twin,
                 is_found: false,
-                is_equal: false,
             };
         }
         let at = (twin - start) as usize;
@@ -114,7 +124,6 @@ fn pass_on(
                 before,
                 twin,
                 is_found: true,
-                is_equal: false,
             };
         }
         before = twin;
@@ -124,26 +133,6 @@ fn pass_on(
         before,
         twin,
         is_found: false,
-        is_equal: false,
-    }
-}
-
-/// The walk, with whether the key where it ends is equal.
-fn with_equality(places: TwinPlaces, block: &[u8], start: u32, key: &[u8], walk: Walk) -> Walk
-    requires ends { walk.is_found ≡ true → HasTwin places block.now start walk.twin }
-    ensures same { result ≡ record walk { is_equal = result.is_equal } }
-    ensures equal { (result.is_equal ≡ true) ↔ ((walk.is_found ≡ true) × (key_in places block.now start walk.twin ≡ key.now)) }
-{
-    if !walk.is_found {
-        return Walk {
-            is_equal: false,
-            ..walk
-        };
-    }
-    let place = (walk.twin - start) as usize + places.key;
-    Walk {
-        is_equal: is_key_at(block, place, places.length, key),
-        ..walk
     }
 }
 
@@ -161,12 +150,11 @@ pub fn pass_in(
     requires { IfSome number (λ n. IsNumberOf places.length key.now n) }
     ensures { IsWalk places block.now start key.now behind address result }
 {
-    let walk = match number {
+    match number {
         Some(number) => {
             let end = block.len().saturating_sub(7);
             pass_on(places, block, start, behind, address, key, end, number)
         }
         None => pass_on(places, block, start, behind, address, key, 0, 0),
-    };
-    with_equality(places, block, start, key, walk)
+    }
 }

@@ -9,9 +9,9 @@ ghost use Rattle.hd_image.specs.Records.{links_of, IsVolumeOf};
 ghost use Rattle.hd_forest.specs.Walks.{HasForest};
 ghost use Rattle.hd_forest.specs.Twins.{IsTwinFrom, IsLastBelow, IsOfKey};
 ghost use Rattle.hd_forest.specs.TwinPlaces.{twin_places};
-ghost use Rattle.hd_forest.specs.BlockTwins.{IsNumberOf, IsWalkFrom};
+ghost use Rattle.hd_forest.specs.BlockTwins.{IsNumberOf, IsWalkFrom, IsEqualFrom};
 
-use crate::block_twins::{Walk, number_of_key, pass_in};
+use crate::block_twins::{Walk, is_equal, number_of_key, pass_in};
 use hd_bytes::read_u32;
 use hd_dbd::{Dbd, Refused};
 use hd_prefix::{Layout, Pointer};
@@ -69,7 +69,8 @@ pub struct TwinsAround {
     pub is_equal: bool,
 }
 
-/// Passes over the twins of one block from the one at an address on, behind another, as far as their keys are below a key. One access.
+/// Passes over the twins of one block from the one at an address on, behind another, as far as their keys are below a key, and says whether the key
+/// where it ends is equal. One access.
 fn pass_block<S: BlockStore>(
     volume: &mut Volume<S>,
     places: TwinPlaces,
@@ -77,17 +78,19 @@ fn pass_block<S: BlockStore>(
     address: u32,
     key: &[u8],
     number: Option<u64>,
-) -> Result<Walk, Refused>
+) -> Result<(Walk, bool), Refused>
     requires there { IsTrue volume.old.is_sound → HasBlock volume.old.size volume.old.image (address / volume.old.size) }
     requires number { IfSome number (λ n. IsNumberOf places.length key.now n) }
     ensures read { IsRead volume.old result volume.new }
-    ensures value { IfOk result (λ r. IsTrue volume.old.is_sound → IsWalkFrom volume.old places key.now behind address r) }
+    ensures value { IfOk result (λ r. IsTrue volume.old.is_sound → IsWalkFrom volume.old places key.now behind address r.0) }
+    ensures equal { IfOk result (λ r. IsTrue volume.old.is_sound → r.1 ≡ true → IsEqualFrom volume.old places key.now address r.0) }
     ensures refusal { OnlyDevice result }
 {
     let size = volume.block_size() as u32;
     let n = address / size;
     let block = volume.block(n)?;
-    Ok(pass_in(places, block, n * size, behind, address, key, number))
+    let walk = pass_in(places, block, n * size, behind, address, key, number);
+    Ok((walk, is_equal(places, block, n * size, key, walk)))
 }
 
 /// Of the twins from one at an address on, of a type whose segments have twin forward and the key at these places, those around a key.
@@ -121,14 +124,14 @@ pub fn twins_around<S: BlockStore>(
                 is_equal: false,
             });
         }
-        let walk = pass_block(volume, places, before, twin, key, number)?;
+        let (walk, is_equal) = pass_block(volume, places, before, twin, key, number)?;
         before = walk.before;
         twin = walk.twin;
         if walk.is_found {
             return Ok(TwinsAround {
                 before,
                 from: twin,
-                is_equal: walk.is_equal,
+                is_equal,
             });
         }
     }

@@ -1,4 +1,4 @@
-use Rattle.std.proofs.Common.{◌≡◌, ℕ, ◌+◌, ◌<◌, ◌≤◌, length, IsTrue, Ok, subst, arith, inl, inr}
+use Rattle.std.proofs.Common.{sym, ◌∙◌, ◌≡◌, ℕ, ◌+◌, ◌<◌, ◌≤◌, length, IsTrue, Ok, subst, arith, inl, inr}
 use Rattle.std.proofs.lemmas.Bool.{cases_lt}
 use Rattle.hd_volume.proofs.CallSteps.{read-ok, read-none, reads-join}
 use Rattle.hd_links.specs.Steps.{rows_of}
@@ -7,7 +7,7 @@ use Rattle.hd_image.proofs.RowCounts.{few-rows}
 use Rattle.hd_forest.specs.declared.twins.TwinsAround.{TwinsAround}
 use Rattle.hd_forest.specs.Twins.{IsTwinFrom, IsLastBelow}
 use Rattle.hd_forest.proofs.Reading.{after-read, sound-before}
-use Rattle.hd_forest.proofs.BlockTwins.{HasCome, comes-none, block-there, walked-in, around-all, around-to, block-kept, walk-before}
+use Rattle.hd_forest.proofs.BlockTwins.{HasCome, comes-none, block-there, walked-in, around-all, around-to, block-kept, walk-before, equal-before}
 use Rattle.hd_forest.proofs.twins.twins_around.Given.{Over}
 use Rattle.hd_forest.proofs.twins.twins_around.Goals as goal
 
@@ -56,7 +56,7 @@ pass_block-requires-clause-there g c now =
 
 pub returns-then-walk-clause-read : goal.returns-then-walk-clause-read
 returns-then-walk-clause-read g c =
-    let around : TwinsAround = record { before = c.in_ok-walk.walk.before; from = c.in_ok-walk.walk.twin; is_equal = c.in_ok-walk.walk.is_equal } in
+    let around : TwinsAround = record { before = c.in_ok-walk.walk.before; from = c.in_ok-walk.walk.twin; is_equal = c.in_ok-walk.is_equal } in
     reads-join (Ok around) c.loop-count.invariant.read (read-ok around c.in_ok-walk.ensures.read)
 
 -- the first whose key is not below was found
@@ -89,7 +89,8 @@ returns-then-walk-clause-equal g c sound same =
     (some c.loop-count.twin c.if-twin-eq0.false)
     (walk-before u c.loop-count.volume c.args.places c.args.key.now c.loop-count.before c.loop-count.twin c.in_ok-walk.walk c.loop-count.invariant.read kept.sound
     (c.in_ok-walk.ensures.value kept.sound)) in
-    record { there = W.there c.if-walk.true; is = (W.equal same).1 }
+    let E = equal-before u c.loop-count.volume c.args.places c.args.key.now c.loop-count.twin c.in_ok-walk.walk c.loop-count.invariant.read kept.sound (c.in_ok-walk.ensures.equal kept.sound same) in
+    record { there = W.there c.if-walk.true; is = sym (W.key_is c.if-walk.true) ∙ E.1 }
 
 pub returns-then-walk-clause-from : goal.returns-then-walk-clause-from
 returns-then-walk-clause-from g c sound = (found g c sound).0
