@@ -24,6 +24,7 @@ pub mod Unlinks
 pub mod UnlinkSpan
 pub mod TwinsBelow
 pub mod KeyNumbers
+pub mod Passing
 pub mod BlockTwins
 pub mod SegmentsSet
 pub mod RowsSet

@@ -57,8 +57,16 @@ AreBelowIn places block start key (suc n) p =
     AreBelowIn places block start key n p × HasTwin places block start (twin_in places block start n p)
     × (is_below_in places block start key (twin_in places block start n p) ≡ true)
 
--- A walk along the twins of a block from p, before which another stands, passed over some whose keys are below a key: one at least, where p
--- is in the block and it did not find one whose key is not.
+-- Of the twins of a block from p on, before which another stands, some were passed over whose keys are below a key. One that was found is in the
+-- block, and its key is not below.
+pub record IsPassage (places : TwinPlaces) (block : List ℕ) (start : ℕ) (key : List ℕ) (other p : ℕ) (walk : Walk) : Type 0 where
+  pub steps : ℕ
+  pub below : AreBelowIn places block start key steps p
+  pub twin : walk.twin ≡ twin_in places block start steps p
+  pub before : walk.before ≡ twin_before places block start steps other p
+  pub found : walk.is_found ≡ true → HasTwin places block start walk.twin × (is_below_in places block start key walk.twin ≡ false)
+
+-- A walk along the twins of a block from p is such a passage, over one twin at least, where p is in the block and none was found.
 pub record IsWalk (places : TwinPlaces) (block : List ℕ) (start : ℕ) (key : List ℕ) (other p : ℕ) (walk : Walk) : Type 0 where
   pub steps : ℕ
   pub below : AreBelowIn places block start key steps p

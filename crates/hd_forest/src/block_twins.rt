@@ -4,7 +4,7 @@ ghost use Rattle.std.specs.Int.{from_be_bytes, w64};
 ghost use Rattle.std.specs.Ordering.{nat_cmp, is_lt};
 ghost use Rattle.std.specs.Cmp.Lexicographic.{slice_cmp};
 ghost use Rattle.hd_bytes.specs.Ranges.{bytes_at};
-ghost use Rattle.hd_forest.specs.BlockTwins.{IsNumberOf, HasTwin, key_in, IsWalk};
+ghost use Rattle.hd_forest.specs.BlockTwins.{IsNumberOf, HasTwin, key_in, IsPassage, IsWalk};
 
 use crate::twins::TwinPlaces;
 use hd_bytes::{read_u32, write_bytes};
@@ -49,16 +49,22 @@ pub fn number_of_key(places: TwinPlaces, key: &[u8]) -> Option<u64>
     Some(number_of_eight(&eight))
 }
 
-/// Whether the key at a place is below another: before an end as numbers, since eight bytes stand there.
-fn is_below(block: &[u8], place: usize, count: usize, key: &[u8], end: usize, number: u64) -> bool
-    requires within { place + count ≤ length block.now }
-    requires end { end ≤ length block.now - 7 }
-    requires number { 0 < end → IsNumberOf count key.now number }
+/// Whether the key at a place is below another, as numbers, since eight bytes stand there.
+fn is_number_below(block: &[u8], place: usize, count: usize, key: &[u8], number: u64) -> bool
+    requires within { place + 8 ≤ length block.now }
+    requires number { IsNumberOf count key.now number }
     ensures { result ≡ is_lt (slice_cmp nat_cmp (bytes_at block.now place count) key.now) }
 {
-    if place < end {
-        return number_at(block, place) < number;
-    }
+    let _ = count;
+    let _ = key;
+    number_at(block, place) < number
+}
+
+/// Whether the key at a place is below another.
+fn is_below(block: &[u8], place: usize, count: usize, key: &[u8]) -> bool
+    requires within { place + count ≤ length block.now }
+    ensures { result ≡ is_lt (slice_cmp nat_cmp (bytes_at block.now place count) key.now) }
+{
     compare_keys(&block[place..place + count], key).is_lt()
 }
 
@@ -91,20 +97,67 @@ fn has_twin(places: TwinPlaces, block: &[u8], start: u32, twin: u32) -> bool
     end <= block.len() && start <= twin && (twin - start) as usize <= block.len() - end
 }
 
-/// Passes over the twins of a block, whose first byte has an address, from one on, behind another, as far as their keys are below a key: of
-/// those before an end as numbers.
-fn pass_on(
+/// Passes over the twins of a block, whose first byte has an address, from one on, behind another, as far as their keys are below a key, which has a
+/// number, and eight bytes stand where each key begins. Nothing is called on the way, so that a twin takes few steps.
+fn pass_by_number(
     places: TwinPlaces,
     block: &[u8],
     start: u32,
     behind: u32,
     address: u32,
     key: &[u8],
-    end: usize,
     number: u64,
 ) -> Walk
-    requires end { end ≤ length block.now - 7 }
-    requires number { 0 < end → IsNumberOf places.length key.now number }
+    requires number { IsNumberOf places.length key.now number }
+    ensures { IsPassage places block.now start key.now behind address result }
+{
+    let most = block.len();
+    let end = most.saturating_sub(7);
+    let mut before = behind;
+    let mut twin = address;
+    for count in 0..most {
+        if !has_twin(places, block, start, twin) {
+            return Walk {
+                before,
+                twin,
+                is_found: false,
+            };
+        }
+        let at = (twin - start) as usize;
+        let place = at + places.key;
+        if place >= end {
+            return Walk {
+                before,
+                twin,
+                is_found: false,
+            };
+        }
+        if !is_number_below(block, place, places.length, key, number) {
+            return Walk {
+                before,
+                twin,
+                is_found: true,
+            };
+        }
+        before = twin;
+        twin = read_u32(block, at + places.forward as usize);
+    }
+    Walk {
+        before,
+        twin,
+        is_found: false,
+    }
+}
+
+/// Passes over the twins of a block, whose first byte has an address, from one on, behind another, as far as their keys are below a key.
+fn pass_by_key(
+    places: TwinPlaces,
+    block: &[u8],
+    start: u32,
+    behind: u32,
+    address: u32,
+    key: &[u8],
+) -> Walk
     ensures { IsWalk places block.now start key.now behind address result }
 {
     let most = block.len();
@@ -119,7 +172,7 @@ fn pass_on(
             };
         }
         let at = (twin - start) as usize;
-        if !is_below(block, at + places.key, places.length, key, end, number) {
+        if !is_below(block, at + places.key, places.length, key) {
             return Walk {
                 before,
                 twin,
@@ -150,11 +203,12 @@ pub fn pass_in(
     requires { IfSome number (λ n. IsNumberOf places.length key.now n) }
     ensures { IsWalk places block.now start key.now behind address result }
 {
-    match number {
-        Some(number) => {
-            let end = block.len().saturating_sub(7);
-            pass_on(places, block, start, behind, address, key, end, number)
-        }
-        None => pass_on(places, block, start, behind, address, key, 0, 0),
+    let Some(number) = number else {
+        return pass_by_key(places, block, start, behind, address, key);
+    };
+    let part = pass_by_number(places, block, start, behind, address, key, number);
+    if part.is_found {
+        return part;
     }
+    pass_by_key(places, block, start, part.before, part.twin, key)
 }

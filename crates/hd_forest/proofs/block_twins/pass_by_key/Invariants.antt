@@ -1,6 +1,6 @@
 use Rattle.std.proofs.Common.{◌≡◌}
 use Rattle.hd_forest.specs.BlockTwins.{twin_in, twin_before, AreBelowIn}
-use Rattle.hd_forest.proofs.block_twins.pass_on.Given as goal
+use Rattle.hd_forest.proofs.block_twins.pass_by_key.Given as goal
 
 -- it has passed over so many twins
 abbrev pub invariant-loop-count : goal.invariant-loop-count

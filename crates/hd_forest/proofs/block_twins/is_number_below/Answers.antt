@@ -1,11 +1,11 @@
 use Rattle.std.proofs.Common.{ℕ, ◌∙◌, ap, sym, subst, ◌+◌, ◌<◌, drop, get_or, ltb, arith, rules}
 use Rattle.std.proofs.lemmas.List.{length-drop, get_or-drop}
 use Rattle.hd_forest.proofs.KeyNumbers.{number-below}
-use Rattle.hd_forest.proofs.block_twins.is_below.Goals as goal
+use Rattle.hd_forest.proofs.block_twins.is_number_below.Goals as goal
 
-pub returns-then-place-end : goal.returns-then-place-end
-returns-then-place-end c =
+pub returns : goal.returns
+returns c =
     let small : (i : ℕ) → get_or c.args.block.now i 0 < 256 = search rules in
     ap (λ (n : ℕ). ltb n c.args.number) c.number_at.ensures
-    ∙ number-below (drop c.args.place c.args.block.now) c.args.key.now c.args.count c.args.number (c.requires.number (omega arith)) (omega (arith, length-drop c.args.place c.args.block.now))
+    ∙ number-below (drop c.args.place c.args.block.now) c.args.key.now c.args.count c.args.number c.requires.number (let w = c.requires.within in omega (arith, length-drop c.args.place c.args.block.now))
     (λ i. subst (λ (x : ℕ). x < 256) (sym (get_or-drop c.args.place c.args.block.now i 0)) (small (c.args.place + i))) (search rules)
