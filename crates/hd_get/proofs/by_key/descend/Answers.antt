@@ -99,24 +99,24 @@ loop-place-preserved g c =
     record {
       read = reads-join (Ok 0) c.loop-place.invariant.read (read-ok 0 c.in_ok-is_equal.ensures.read);
       comes = λ f i at. (
-        let C = c.loop-place.invariant.comes f i at in
-        let told = told_before d u c.loop-place.volume c.loop-place.invariant.read f c.loop-place.path C.0 (record { sound = at.sound; row = C.1.row }) in
-        let J = (c.in_ok-is_equal.ensures.value f C.0 told).below c.in-Some-2.is_equal c.in-Some-2.is in (
-          J.0,
-          subst (λ b. HasCome d u f c.args.ssas.now i (c.loop-place.is_named && b) c.go_below.new.path J.0) (sym c.ask_for-is_named.ensures)
-          (subst (λ b. HasCome d u f c.args.ssas.now i (b && ask_for d.types c.args.ssas.now c.code-code.result c.in-Some.key.now) c.go_below.new.path J.0) (and_true c.loop-place.is_named)
-          (further d u (c.requires.of at.sound) f c.args.ssas.now c.requires.descend C.0 c.loop-place.above c.loop-place.path C.1.row (c.loop-place.invariant.code at.sound) c.code-code.result
-          c.in-Some.key.now key c.go_below.new.path J.0 J.1 J.2 c.loop-place.place c.index-ssas-place.result c.loop-place-test.true c.index-ssas-place.is c.code-code.ensures i
-          c.loop-place.is_named true C.1 (λ e. J.3 c.if-not-is_equal.false))),
-        ));
+          let C = c.loop-place.invariant.comes f i at in
+          let told = told_before d u c.loop-place.volume c.loop-place.invariant.read f c.loop-place.path C.0 (record { sound = at.sound; row = C.1.row }) in
+          let J = (c.in_ok-is_equal.ensures.value f C.0 told).below c.in-Some-2.is_equal c.in-Some-2.is in (
+            J.0,
+            subst (λ b. HasCome d u f c.args.ssas.now i (c.loop-place.is_named && b) c.go_below.new.path J.0) (sym c.ask_for-is_named.ensures)
+                (subst (λ b. HasCome d u f c.args.ssas.now i (b && ask_for d.types c.args.ssas.now c.code-code.result c.in-Some.key.now) c.go_below.new.path J.0) (and_true c.loop-place.is_named)
+                (further d u (c.requires.of at.sound) f c.args.ssas.now c.requires.descend C.0 c.loop-place.above c.loop-place.path C.1.row (c.loop-place.invariant.code at.sound) c.code-code.result
+                c.in-Some.key.now key c.go_below.new.path J.0 J.1 J.2 c.loop-place.place c.index-ssas-place.result c.loop-place-test.true c.index-ssas-place.is c.code-code.ensures i
+                c.loop-place.is_named true C.1 (λ e. J.3 c.if-not-is_equal.false))),
+          ));
       code = λ sound. (
-        let T = c.requires.there sound in
-        let at : IsPathOf d u T.0 c.args.path.now T.1 = record { sound = sound; row = T.2 } in
-        let C = c.loop-place.invariant.comes T.0 T.1 at in
-        let told = told_before d u c.loop-place.volume c.loop-place.invariant.read T.0 c.loop-place.path C.0 (record { sound = sound; row = C.1.row }) in
-        let J = (c.in_ok-is_equal.ensures.value T.0 C.0 told).below c.in-Some-2.is_equal c.in-Some-2.is in
-        new_code d u (c.requires.of sound) T.0 c.args.ssas.now c.requires.descend C.0 c.loop-place.above c.loop-place.path C.1.row (c.loop-place.invariant.code sound) c.code-code.result
-        c.in-Some.key.now key c.go_below.new.path J.0 J.1 J.2);
+          let T = c.requires.there sound in
+          let at : IsPathOf d u T.0 c.args.path.now T.1 = record { sound = sound; row = T.2 } in
+          let C = c.loop-place.invariant.comes T.0 T.1 at in
+          let told = told_before d u c.loop-place.volume c.loop-place.invariant.read T.0 c.loop-place.path C.0 (record { sound = sound; row = C.1.row }) in
+          let J = (c.in_ok-is_equal.ensures.value T.0 C.0 told).below c.in-Some-2.is_equal c.in-Some-2.is in
+          new_code d u (c.requires.of sound) T.0 c.args.ssas.now c.requires.descend C.0 c.loop-place.above c.loop-place.path C.1.row (c.loop-place.invariant.code sound) c.code-code.result
+          c.in-Some.key.now key c.go_below.new.path J.0 J.1 J.2);
       last = c.code-code.ensures ∙ sym (code_at_place c.loop-place.place c.args.ssas.now c.index-ssas-place.result c.loop-place-test.true c.index-ssas-place.is)
           ∙ ap (slice_index (map (λ a. a.code) c.args.ssas.now)) (let e : c.loop-place.place ≡ c.loop-place.place + 1 - 1 = omega arith in e);
       some = omega arith;
