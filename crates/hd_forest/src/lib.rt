@@ -28,4 +28,4 @@ pub use twins::{
     TwinPlaces, TwinsAround, forward_in, key_at, twin_from, twin_places, twins_around,
 };
 pub use unlink::unlink_span;
-pub use walk::{Ahead, ahead_of, go_on, next_after_span, next_row, step_to_twin};
+pub use walk::{Ahead, ahead_of, go_on, next_after_span, next_row, twin_behind};

@@ -5,6 +5,7 @@ ghost use Rattle.hd_links.specs.Links.{IsSegment};
 ghost use Rattle.hd_links.specs.Steps.{behind_span};
 ghost use Rattle.hd_image.specs.Records.{links_of, IsVolumeOf};
 ghost use Rattle.hd_forest.specs.Walks.{AreSegments, HasForest, IsAhead, IsNextBy, OfFound, tip, moved, next_on, next_after_span_on};
+ghost use Rattle.hd_forest.specs.Onward.{onward};
 ghost use Rattle.hd_forest.specs.Children.{beside};
 
 use crate::children::{below_later, child_in};
@@ -73,21 +74,19 @@ pub fn go_on<S: BlockStore>(
     step_behind(volume, dbd, path, ahead.code)
 }
 
-/// Goes from the last row of a path, where it has no row below it, to its next twin, and says the code of their type; `None` where it has rows below it or
-/// no next twin, and the path stays. One segment is read.
-pub fn step_to_twin<S: BlockStore>(
+/// The address of the next twin of the last row of a path, where this has no row below it, and the code of their type; `None` where it has rows below it or
+/// no next twin. One segment is read.
+pub fn twin_behind<S: BlockStore>(
     volume: &mut Volume<S>,
     dbd: &Dbd,
-    path: &mut Path,
-) -> Result<Option<u8>, Refused>
+    path: &Path,
+) -> Result<Option<(u32, u8)>, Refused>
     requires of { IsTrue volume.old.is_sound → IsVolumeOf dbd.now volume.old }
     requires holds { IsTrue volume.old.is_sound → HasForest dbd.now volume.old }
-    requires there { IsTrue volume.old.is_sound → AreSegments (links_of dbd.now.types volume.old) path.old }
+    requires there { IsTrue volume.old.is_sound → AreSegments (links_of dbd.now.types volume.old) path.now }
     ensures read { IsRead volume.old result volume.new }
-    ensures next { IfOk result (λ o. IfSome o (λ code. IsTrue volume.old.is_sound → path.new ≡ next_on dbd.now.types (links_of dbd.now.types volume.old) path.old)) }
-    ensures code { IfOk result (λ o. IfSome o (λ code. IsTrue volume.old.is_sound → code ≡ (links_of dbd.now.types volume.old).code (tip path.new))) }
-    ensures stays { IfOk result (λ o. IfNone o (path.new ≡ path.old)) }
-    ensures kept { IfErr result (λ _. path.new ≡ path.old) }
+    ensures next { IfOk result (λ o. IfSome o (λ r. IsTrue volume.old.is_sound → onward dbd.now.types path.now r.0 r.1 ≡ next_on dbd.now.types (links_of dbd.now.types volume.old) path.now)) }
+    ensures code { IfOk result (λ o. IfSome o (λ r. IsTrue volume.old.is_sound → r.1 ≡ (links_of dbd.now.types volume.old).code r.0)) }
     ensures refusal { OnlyDevice result }
 {
     let last = tip_of(path);
@@ -98,8 +97,7 @@ pub fn step_to_twin<S: BlockStore>(
     if ahead.below != 0 || ahead.twin == 0 {
         return Ok(None);
     }
-    path.step(dbd.level(ahead.code), ahead.twin);
-    Ok(Some(ahead.code))
+    Ok(Some((ahead.twin, ahead.code)))
 }
 
 /// Goes from the last row of a path, which names this ahead of it, to the first row below it or else to its next twin, and says

@@ -1,6 +1,7 @@
 -- The next twin, where a get without arguments goes.
-use Rattle.std.proofs.Common.{◌≡◌, ℕ, ◌<◌, ◌≤◌, List, [], ◌∷◌, length, Bool, true, false, cond, Option, None, Some, refl, sym, ap, subst, ◌∙◌, inl, inr, arith}
-use Rattle.std.specs.Prelude.{◌==◌, IfNone, IfSome, nat_lt, option_map}
+use Rattle.std.proofs.Common.{◌≡◌, ℕ, ◌<◌, ◌≤◌, List, [], ◌∷◌, ◌++◌, zero, suc, take, length, Bool, true, false, cond, Option, None, Some, refl, sym, ap, subst, ◌∙◌, inl, inr, arith}
+use Rattle.std.specs.Prelude.{◌==◌, ◌||◌, IfNone, IfSome, is_some, nat_lt, option_map, slice_get, unwrap_or}
+use Rattle.std.specs.List.{list_any}
 use Rattle.std.proofs.lemmas.Bool.{cases_lt, cond-true, cond-false, lt-ltb, le-ltb, eq-eqb, false≢true}
 use Rattle.hd_dbd.specs.Hierarchy.{Database}
 use Rattle.hd_dbd.specs.Positions.{Position}
@@ -12,6 +13,7 @@ use Rattle.hd_links.specs.Steps.{rows_of, path_at}
 use Rattle.hd_image.specs.Records.{links_of, IsVolumeOf}
 use Rattle.hd_forest.specs.Rows.{IsOnRow}
 use Rattle.hd_forest.specs.Walks.{tip}
+use Rattle.hd_position.specs.Kept.{row_on}
 use Rattle.hd_calls.specs.Gets.{search_end}
 use Rattle.hd_calls.specs.Ssas.{Ssa}
 use Rattle.hd_calls.specs.Satisfies.{satisfies}
@@ -46,10 +48,29 @@ some_are n b is no_ = elim (cases_lt 0 n) [
   | inr w ↦ absurd (false≢true (sym no_ ∙ is ∙ eq-eqb n 0 (let z : n ≡ 0 = omega arith in z)))
 ]
 
--- a path that is left out or stays, and leads somewhere, has stayed
-pub stayed : (b : Bool) (path new : List ℕ) → new ≡ cond b path [] → 0 < length new → new ≡ path
-stayed true path new is some = is
-stayed false path new is some = absurd (let none : 0 < 0 = subst (λ (xs : List ℕ). 0 < length xs) is some in omega (arith, none))
+-- what is there is some
+pub there_is : (o : Option ℕ) → is_some o ≡ true → o ≡ Some (unwrap_or o 0)
+there_is None e = cc
+there_is (Some x) e = refl
+
+or_true : (b : Bool) → (b || true) ≡ true
+or_true true = refl
+or_true false = refl
+
+-- what stands on a path above a cut stands before the row that comes there
+kept_before : (path : List ℕ) (l n a x : ℕ) → slice_get path l ≡ Some a → l < n → list_any (λ b. b == a) (take n path ++ x ∷ []) ≡ true
+kept_before [] l n a x e w = cc
+kept_before (y ∷ path) l zero a x e w = absurd (omega arith)
+kept_before (y ∷ path) zero (suc n) a x e w = ap (λ (b : Bool). b || list_any (λ b. b == a) (take n path ++ x ∷ [])) (eq-eqb y a (let same : y ≡ a = cc in same))
+kept_before (y ∷ path) (suc l) (suc n) a x e w =
+    ap (λ (b : Bool). (y == a) || b) (kept_before path l n a x e (let w' : l < n = omega (arith, w) in w')) ∙ or_true (y == a)
+
+-- a path that goes on below a level has what stood at that level
+pub stays_below : (path : List ℕ) (level n a x : ℕ) → row_on path level ≡ Some a → level ≤ n → cond (a == 0 || list_any (λ b. b == a) (take n path ++ x ∷ [])) (take n path ++ x ∷ []) [] ≡ take n path ++ x ∷ []
+stays_below path zero n a x e w = cc
+stays_below path (suc l) n a x e w =
+    ap (λ (b : Bool). cond (a == 0 || b) (take n path ++ x ∷ []) []) (kept_before path l n a x e (let w' : l < n = omega (arith, w) in w'))
+    ∙ ap (λ (b : Bool). cond b (take n path ++ x ∷ []) []) (or_true (a == 0))
 
 -- a get begins where a path leads to a row
 module _ (d : Database) (v : VolumeState) (f : Forest Placed) (c : GetCall) (q : Position) (parent : ℕ) (path : List ℕ) (L : LeadsToSought d v f c q parent path) (some : 0 < length path) where

@@ -6,3 +6,4 @@ pub mod Descents
 pub mod First
 pub mod Gets
 pub mod Found
+pub mod Behind

@@ -8,6 +8,7 @@ ghost use Rattle.hd_calls.specs.Gets.{crossing};
 ghost use Rattle.hd_position.specs.LastTypes.{place_of};
 ghost use Rattle.hd_calls.specs.Admits.{Descend};
 ghost use Rattle.hd_get.specs.Gets.{HasPosition, IsGot, levels_taken};
+ghost use Rattle.hd_get.specs.Behind.{SeeksBehind};
 ghost use Rattle.hd_get.specs.Found.{IsSought, IsMissed, goes_back, status_between};
 
 use crate::call::Get;
@@ -18,7 +19,7 @@ use crate::searches::seek;
 use hd_calls::GetKind;
 use hd_dbd::{Dbd, Refused, Status};
 use hd_forest::{Path, code_at, tip_of};
-use hd_position::{LastType, Levels, Position, stand_on};
+use hd_position::{LastType, Levels, Position, stand_behind, stand_on};
 use hd_ssa::ResolvedSsa;
 use hd_stores::BlockStore;
 use hd_volume::Volume;
@@ -85,6 +86,27 @@ fn leave_on<S: BlockStore>(
     Outcome::Found(status_between(call, last, position.last()))
 }
 
+/// Leaves a PCB on the row that a get without arguments has found, at an address, of a type, just behind the rows passed. Nothing is read.
+fn leave_behind<S: BlockStore>(
+    volume: &Volume<S>,
+    dbd: &Dbd,
+    call: &Get<'_>,
+    position: &mut Position,
+    address: u32,
+    code: u8,
+) -> Outcome
+    requires bare { call.now.ssas ≡ [] }
+    requires descend { Descend dbd.now.types None call.now.ssas }
+    requires there { HasPosition dbd.now volume.now position.old }
+    requires sought { SeeksBehind dbd.now volume.now call.now position.old address code }
+    requires code { IsTrue volume.now.is_sound → code ≡ (links_of dbd.now.types volume.now).code address }
+    ensures value { IsGot dbd.now volume.now call.now position.old result position.new }
+{
+    let last = position.last();
+    stand_behind(volume, dbd, position, address, code, call.kind, call.hold);
+    Outcome::Found(status_between(call, last, position.last()))
+}
+
 /// Leaves a PCB on the row that a get has found. One access.
 fn found<S: BlockStore>(
     volume: &mut Volume<S>,
@@ -121,10 +143,10 @@ fn get_next_twin<S: BlockStore>(
     ensures kept { IfErr result (λ _. position.new ≡ position.old) }
     ensures refusal { OnlyDevice result }
 {
-    let Some((path, code)) = seek_next_twin(volume, dbd, call, position)? else {
+    let Some((twin, code)) = seek_next_twin(volume, dbd, call, position)? else {
         return Ok(None);
     };
-    Ok(Some(leave_on(volume, dbd, call, position, path, code)))
+    Ok(Some(leave_behind(volume, dbd, call, position, twin, code)))
 }
 
 /// Whether no argument is qualified.

@@ -1,5 +1,5 @@
 -- Where a get begins, and what it leaves.
-use Rattle.std.proofs.Common.{◌≡◌, ℕ, zero, suc, ◌+◌, ◌<◌, ◌≤◌, List, [], ◌∷◌, length, Bool, arith, ap, sym, ◌∙◌, subst, refl, Option, Some, None}
+use Rattle.std.proofs.Common.{◌≡◌, ℕ, zero, suc, ◌+◌, ◌<◌, ◌≤◌, List, [], ◌∷◌, length, Bool, arith, ap, sym, ◌∙◌, subst, refl, Option, Some, None, Result, Ok, Err, IfOk, IfSome}
 use Rattle.std.specs.Prelude.{map, slice_get, option_map, cond}
 use Rattle.std.proofs.lemmas.List.{length-map}
 use Rattle.hd_dbd.specs.Types.{SegmentType}
@@ -24,6 +24,12 @@ use Rattle.hd_position.proofs.Falling.{get_below}
 use Rattle.hd_position.proofs.Leaving.{passed_below}
 
 -- ---- the beginning
+
+-- what two clauses say of what a call may find, as one
+pub found_both : {A E : Type 0} {P Q R : A → Type 0} (r : Result (Option A) E) → IfOk r (λ o. IfSome o P) → IfOk r (λ o. IfSome o Q) → ((x : A) → P x → Q x → R x) → IfOk r (λ o. IfSome o R)
+found_both (Ok (Some x)) p q f = f x p q
+found_both (Ok None) p q f = tt
+found_both (Err e) p q f = tt
 
 module _ (types : List SegmentType) (m : Links) (f : Forest Placed) (S : StepsGoToRows types m f) where
   step_behind : (n : ℕ) → n ≤ length (rows_of f) → next_on types m (path_before types f n) ≡ path_to types f n

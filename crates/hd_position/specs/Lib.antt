@@ -2,6 +2,7 @@ pub mod Kept
 pub mod Standing
 pub mod LastTypes
 pub mod Gets
+pub mod Behind
 pub mod Backs
 pub mod Laws
 pub mod Volumes

@@ -9,7 +9,7 @@ mod levels;
 mod position;
 
 pub use back::row_before;
-pub use gets::{begin, begin_at_twin, stand, stand_on};
+pub use gets::{begin, begin_at_twin, stand, stand_behind, stand_on};
 pub use inserts::stand_on_new;
 pub use law::{
     law_ended_holds_hold_nothing, law_forests_of_volumes_are_held, law_insertions_add_up,

@@ -1,7 +1,8 @@
-ghost use Rattle.std.specs.Prelude.{◌≡◌, option_map};
+ghost use Rattle.std.specs.Prelude.{◌≡◌, ◌≤◌, ◌-◌, ◌++◌, ◌∷◌, [], take, option_map};
 ghost use Rattle.hd_position.specs.Kept.{kept_start, row_on, without_hold, is_held, after_rewrite, is_on, without_level, without_row, moved_row};
 ghost use Rattle.hd_position.specs.LastTypes.{place_of};
 ghost use Rattle.hd_position.specs.Standing.{standing_on};
+ghost use Rattle.hd_position.specs.Behind.{standing_alone};
 
 use crate::levels::Levels;
 use hd_calls::GetKind;
@@ -132,6 +133,24 @@ impl Position {
             self.parent = level;
         }
         self.held = held;
+    }
+
+    /// Stands on a row at an address, of a type, just behind the rows passed, as a get of a kind leaves it, and holds it where that is said.
+    pub(crate) fn stand_behind(&mut self, address: u32, last: LastType, kind: GetKind, hold: bool)
+        requires { last.level ≤ 15 }
+        ensures { self.new ≡ standing_alone kind self.old (take (last.level - 1) self.old.path ++ address ∷ []) (place_of last) hold }
+    {
+        self.path.step(last.level, address);
+        let level = self.path.level();
+        self.standing = level;
+        self.last = Some(last);
+        if kind != GetKind::NextInParent {
+            self.parent = level;
+        }
+        self.held = Levels::new();
+        if hold {
+            self.held.push(level);
+        }
     }
 
     /// Whether the row at an address is the last one passed or one of its parents.

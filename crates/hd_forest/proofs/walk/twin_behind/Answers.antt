@@ -1,11 +1,10 @@
 use Rattle.std.proofs.Common.{◌≡◌, ◌≢◌, ℕ, ◌-◌, ◌<◌, List, [], ◌∷◌, ◌++◌, take, sym, ap, subst, ◌∙◌, arith}
 use Rattle.hd_links.specs.Links.{Links, IsSegment}
-use Rattle.hd_links.proofs.Ways.{tip_end}
 use Rattle.hd_image.specs.Records.{links_of}
 use Rattle.hd_forest.specs.Walks.{tip}
 use Rattle.hd_forest.proofs.Held.{held}
 use Rattle.hd_forest.proofs.Climbs.{a-path, next-twin}
-use Rattle.hd_forest.proofs.walk.step_to_twin.Goals as goal
+use Rattle.hd_forest.proofs.walk.twin_behind.Goals as goal
 
 pub look_ahead-requires-clause-there : goal.look_ahead-requires-clause-there
 look_ahead-requires-clause-there g c sound =
@@ -18,15 +17,11 @@ returns-clause-next g c sound =
     let d = c.args.dbd.now in
     let u = c.args.volume.now in
     let m : Links = links_of d.types u in
-    let path : List ℕ = c.args.path.now in
     let H = held d u (c.requires.of sound).fit (c.requires.of sound) (c.requires.holds sound) in
     let ne : c.tip_of-last.result ≢ 0 = λ z. (let f = c.if-last-eq0.false in f z) in
-    let twin : ℕ = c.in_ok-ahead.ahead.twin in
     let is = c.in_ok-ahead.ensures.ahead sound in
-    c.step.ensures
-    ∙ ap (λ (l : ℕ). take (l - 1) path ++ twin ∷ []) c.level.ensures.level
-    ∙ next-twin d.types m path c.tip_of-last.result c.in_ok-ahead.ahead.below c.tip_of-last.ensures is.below H.linked.typed (c.requires.there sound) ne
-    twin c.in_ok-ahead.ahead.code is.twin is.code c.if-ahead-ne0.false (λ e. (let f = c.if-ahead-eq0.false in f e))
+    next-twin d.types m c.args.path.now c.tip_of-last.result c.in_ok-ahead.ahead.below c.tip_of-last.ensures is.below H.linked.typed (c.requires.there sound) ne
+    c.in_ok-ahead.ahead.twin c.in_ok-ahead.ahead.code is.twin is.code c.if-ahead-ne0.false (λ e. (let f = c.if-ahead-eq0.false in f e))
 
 pub returns-clause-code : goal.returns-clause-code
 returns-clause-code g c sound =
@@ -42,5 +37,4 @@ returns-clause-code g c sound =
     let is = c.in_ok-ahead.ensures.ahead sound in
     let named : twin ≡ m.forward (tip path) = is.twin ∙ ap m.forward c.tip_of-last.ensures in
     let behind : 0 < m.forward (tip path) = subst (λ (x : ℕ). 0 < x) named (omega (arith, some)) in
-    let new : tip c.step.new.self ≡ twin = ap tip c.step.ensures ∙ tip_end 0 (take (c.level.result - 1) path) twin in
-    is.code ∙ ap m.code c.tip_of-last.ensures ∙ sym (H.linked.typed.forward (tip path) P.1 behind).1 ∙ ap m.code (sym named) ∙ ap m.code (sym new)
+    is.code ∙ ap m.code c.tip_of-last.ensures ∙ sym (H.linked.typed.forward (tip path) P.1 behind).1 ∙ ap m.code (sym named)
