@@ -1,6 +1,6 @@
 -- The last tests of a call, by what each comes to.
 use Rattle.std.proofs.Common.{◌≡◌, ◌≢◌, ℕ, List, [], Bool, true, false, Option, Some, None, refl, ap, ◌∙◌}
-use Rattle.std.specs.Prelude.{not, ◌||◌, cond, Result, Ok, Err}
+use Rattle.std.specs.Prelude.{not, ◌||◌, cond, is_some, Result, Ok, Err}
 use Rattle.hd_dbd.specs.declared.answer.Status.{Status}
 use Rattle.hd_dbd.specs.declared.answer.Status.TheVariants.{GP, AM, AH, DJ, AD, AJ, AC}
 use Rattle.hd_dbd.specs.Types.{SegmentType}
@@ -16,7 +16,7 @@ use Rattle.std.specs.Option.{ok_or}
 use Rattle.hd_calls.specs.Access.{loads}
 use Rattle.hd_calls.specs.Functions.{function_of, result_and_then}
 use Rattle.hd_calls.specs.Ssas.{Ssa, Head, codes_of, read_ssas, resolve}
-use Rattle.hd_calls.specs.Steps.{AcceptedCall, is_allowed, names_enough, holds_enough, looks_below_parent, last_tests, accepted_call}
+use Rattle.hd_calls.specs.Steps.{AcceptedCall, is_allowed, names_enough, holds_enough, looks_below_parent, has_parent, last_tests, accepted_call}
 use Rattle.hd_session.specs.Tests.{tested, AreLastTests}
 
 module _ (s : Setting) (rows : List Segment) (p : Position) (f : Function) (ssas : List Ssa) where
@@ -44,6 +44,11 @@ pub looks_anywhere : (types : List SegmentType) (rows : List Segment) (parent : 
 looks_anywhere types rows parent Unique hold ssas other = refl
 looks_anywhere types rows parent Next hold ssas other = refl
 looks_anywhere types rows parent NextInParent hold ssas other = absurd (other refl)
+
+-- without arguments any parent is one to look below
+pub any_parent : (types : List SegmentType) (rows : List Segment) (parent : Option ℕ) → has_parent types rows parent [] ≡ is_some parent
+any_parent types rows None = refl
+any_parent types rows (Some p) = refl
 
 -- arguments that mean nothing answer at once
 pub refused_ssas : (s : Setting) (rows : List Segment) (p : Position) (text area : List ℕ) (words : List (List ℕ)) (f : Function) (status : Status) → function_of text ≡ Some f

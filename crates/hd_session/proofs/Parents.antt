@@ -1,6 +1,7 @@
 -- The parentage row on a PCB's path.
-use Rattle.std.proofs.Common.{◌≡◌, ℕ, zero, suc, ◌<◌, ◌≤◌, List, [], ◌∷◌, length, Some, refl, ap, subst, ◌∙◌, arith}
-use Rattle.std.specs.Prelude.{option_map}
+use Rattle.std.proofs.Common.{◌≡◌, ℕ, zero, suc, ◌<◌, ◌≤◌, List, [], ◌∷◌, length, Option, Some, inl, inr, refl, sym, ap, subst, ◌∙◌, arith}
+use Rattle.std.specs.Prelude.{option_map, nat_lt, is_some}
+use Rattle.std.proofs.lemmas.Bool.{cases_lt, lt-ltb, le-ltb}
 use Rattle.std.proofs.lemmas.List.{length-map}
 use Rattle.hd_dbd.specs.Types.{SegmentType}
 use Rattle.hd_dbd.specs.Positions.{Position}
@@ -52,3 +53,10 @@ parent_at types m f k q holds F some =
 -- without a level there is no parent
 pub no_parent : (types : List SegmentType) (f : Forest Placed) (k : Kept) (q : Position) → StandsFor types f k q → k.parent ≡ 0 → q.parent ≡ row_on (path_passed types (rows_of f) q.passed) 0
 no_parent types f k q F none = F.parent ∙ ap (λ (l : ℕ). row_on (path_passed types (rows_of f) q.passed) l) none
+
+-- there is a parent just where a level is kept for it
+pub parent_kept_is : (types : List SegmentType) (m : Links) (f : Forest Placed) (k : Kept) (q : Position) → Holds types m f → StandsFor types f k q → nat_lt 0 k.parent ≡ is_some q.parent
+parent_kept_is types m f k q holds F = elim (cases_lt 0 k.parent) [
+  | inl w ↦ (let P = parent_at types m f k q holds F w in lt-ltb 0 k.parent w ∙ sym (ap (λ (o : Option ℕ). is_some o) P.is))
+  | inr w ↦ le-ltb 0 k.parent w ∙ sym (ap (λ (o : Option ℕ). is_some o) (no_parent types f k q F (let z : k.parent ≡ 0 = omega arith in z)))
+]

@@ -7,7 +7,7 @@ use Rattle.hd_stores.specs.Stores.{Commit, Committed, commits_of}
 use Rattle.hd_update.specs.States.{Represents}
 use Rattle.hd_session.specs.Opening.{SessionState}
 use Rattle.hd_session.specs.Turns.{Turn, IsFlushed, AreMade}
-use Rattle.hd_session.specs.Requests.{Request, ask, commit, calls_in, committed_by, Lasts, AreDone, DoesAll}
+use Rattle.hd_session.specs.Requests.{Request, ask, commit, calls_in, committed_by, Lasts, AreDone}
 use Rattle.hd_session.proofs.Turns.{made_none, made_flushed, made_both, entries_count, image_at_append}
 
 -- ---- some requests, and then others

@@ -13,19 +13,20 @@ pub(crate) const KEY_ROOM: usize = 4080;
 #[derive(Debug, Drop)]
 pub struct IoArea {
     key: Vec<u8>,
+    key_end: usize,
     area: Vec<u8>,
-    room: usize,
+    area_end: usize,
 }
 
 impl Model for IoArea {
-    ghost use Rattle.std.specs.Prelude.{◌≤◌, vec_capacity};
+    ghost use Rattle.std.specs.Prelude.{◌≡◌, ◌≤◌, length, take};
     ghost use Rattle.hd_session.specs.Buffer.{Buffer, KEY_ROOM};
 
     ghost Value = { Buffer };
 
-    ghost view = { λ b. record { key = b.key.items; area = b.area.items; room = b.room } };
+    ghost view = { λ b. record { key = take b.key_end b.key.items; area = take b.area_end b.area.items; room = length b.area.items } };
 
-    ghost invariant = { λ b. (KEY_ROOM ≤ vec_capacity b.key) × (b.room ≤ vec_capacity b.area) };
+    ghost invariant = { λ b. (length b.key.items ≡ KEY_ROOM) × (b.key_end ≤ KEY_ROOM) × (b.area_end ≤ length b.area.items) };
 }
 
 impl IoArea {
@@ -33,32 +34,36 @@ impl IoArea {
     pub fn new(alloc: Global, dbd: &Dbd) -> Result<IoArea, AllocError>
         ensures { IfOk result (λ b. b ≡ record { key = []; area = []; room = longest_path dbd.now.types }) }
     {
-        let room = dbd.longest_path();
-        let key = Vec::with_capacity(alloc, KEY_ROOM)?;
-        let area = Vec::with_capacity(alloc, room)?;
-        Ok(IoArea { key, area, room })
+        let key = vec![in alloc; 0; KEY_ROOM]?;
+        let area = vec![in alloc; 0; dbd.longest_path()]?;
+        Ok(IoArea {
+            key,
+            key_end: 0,
+            area,
+            area_end: 0,
+        })
     }
 
     /// The keys on the path of the segment given, root first.
     pub fn key(&self) -> &[u8]
         ensures { result.now ≡ self.now.key }
     {
-        &self.key
+        &self.key[..self.key_end]
     }
 
     /// The bytes of the segments given.
     pub fn area(&self) -> &[u8]
         ensures { result.now ≡ self.now.area }
     {
-        &self.area
+        &self.area[..self.area_end]
     }
 
     /// Empties key and area.
     pub(crate) fn clear(&mut self)
         ensures { self.new ≡ record { key = []; area = []; room = self.old.room } }
     {
-        self.key.clear();
-        self.area.clear();
+        self.key_end = 0;
+        self.area_end = 0;
     }
 
     /// Adds to the key.
@@ -66,7 +71,9 @@ impl IoArea {
         requires { length self.old.key + length bytes.now ≤ KEY_ROOM }
         ensures { self.new ≡ record self.old { key = self.old.key ++ bytes.now } }
     {
-        let _ = self.key.extend_from_slice(bytes);
+        let end = self.key_end + bytes.len();
+        self.key[self.key_end..end].copy_from_slice(bytes);
+        self.key_end = end;
     }
 
     /// Adds to the key, where there is room.
@@ -74,8 +81,7 @@ impl IoArea {
         ensures added { length self.old.key + length bytes.now ≤ KEY_ROOM → self.new ≡ record self.old { key = self.old.key ++ bytes.now } }
         ensures same_room { self.new.room ≡ self.old.room }
     {
-        let filled = self.key.len();
-        if filled <= KEY_ROOM && bytes.len() <= KEY_ROOM - filled {
+        if bytes.len() <= KEY_ROOM - self.key_end {
             self.push_key(bytes);
         }
     }
@@ -85,8 +91,7 @@ impl IoArea {
         ensures added { length self.old.area + length bytes.now ≤ self.old.room → self.new ≡ record self.old { area = self.old.area ++ bytes.now } }
         ensures same_room { self.new.room ≡ self.old.room }
     {
-        let filled = self.area.len();
-        if filled <= self.room && bytes.len() <= self.room - filled {
+        if bytes.len() <= self.area.len() - self.area_end {
             self.push_area(bytes);
         }
     }
@@ -96,6 +101,8 @@ impl IoArea {
         requires { length self.old.area + length bytes.now ≤ self.old.room }
         ensures { self.new ≡ record self.old { area = self.old.area ++ bytes.now } }
     {
-        let _ = self.area.extend_from_slice(bytes);
+        let end = self.area_end + bytes.len();
+        self.area[self.area_end..end].copy_from_slice(bytes);
+        self.area_end = end;
     }
 }

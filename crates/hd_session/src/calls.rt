@@ -193,6 +193,54 @@ fn answer_tested<S: BlockStore>(
     }
 }
 
+/// A call that names this function, with segment search arguments.
+#[inline(never)] // What it needs of the stack is cleared at each call, and so not taken where a call has no arguments.
+fn answer_named<S: BlockStore>(
+    alloc: Global,
+    volume: &mut Volume<S>,
+    dbd: &Dbd,
+    pcb: &Pcb,
+    positions: &mut [Position],
+    number: usize,
+    call: &Call,
+    function: Function,
+    above: &mut KeysAbove,
+    io: &mut IoArea,
+) -> Result<Answer, Refused>
+    requires number { (0 < number) × (number ≤ length positions.old) }
+    requires size { volume.old.size ≡ dbd.now.block_size }
+    requires sizes { volume.old.sizes ≡ stored_sizes dbd.now.types }
+    requires state { HasState dbd.now volume.old positions.old }
+    requires loader { loads pcb.now ≡ true → HasPassedAll dbd.now volume.old positions.old number }
+    requires known { AreKeysOf dbd.now volume.old above.old }
+    requires empty { IsEmpty io.old }
+    requires named { function_of call.now.function ≡ Some function }
+    requires room { longest_path dbd.now.types ≤ io.old.room }
+    ensures call { IsCall volume.old result volume.new }
+    ensures known { IfOk result (λ _. AreKeysOf dbd.now volume.new above.new) }
+    ensures done { IfOk result (λ a. IsStepDone dbd.now volume.old positions.old number (call_in dbd.now pcb.now number call.now) (reply_of a io.new) volume.new positions.new) }
+    ensures undone { IfErr result (λ e. IsUndoneUnlessDevice volume.old positions.old e volume.new positions.new) }
+    ensures area { IfErr result (λ e. IsAreaWrong dbd.now volume.old positions.old (call_in dbd.now pcb.now number call.now) e) }
+    ensures full { IfErr result (λ e. IsRoomLacking dbd.now volume.old positions.old (call_in dbd.now pcb.now number call.now) e) }
+    ensures refusal { IfErr result (λ e. e ≢ Refused.Broken) }
+    ensures memory { IfFewNoInsert call.now (IfErr result (λ e. IsMemoryLacking dbd.now volume.old positions.old (call_in dbd.now pcb.now number call.now) e)) }
+    ensures never { function_of call.now.function ≢ Some Function.Insert → function_of call.now.function ≢ Some Function.Replace → length call.now.ssas ≤ 4 → IfErr result (λ e. e ≢ Refused.Memory) }
+    ensures empty { IfErr result (λ _. IsEmpty io.new) }
+    ensures same_room { io.new.room ≡ io.old.room }
+    ensures many { length positions.new ≡ length positions.old }
+{
+    match resolve(alloc, function, call.ssas.as_slice(), pcb, dbd) {
+        Ok(resolved) => {
+            let ssas = resolved.ssas();
+            answer_tested(
+                volume, dbd, pcb, positions, number, call, function, ssas, above, io,
+            )
+        }
+        Err(SsaFault::Status(status)) => Ok(fail(positions, number, status, io)),
+        Err(SsaFault::Memory) => Err(Refused::Memory),
+    }
+}
+
 /// One call of the PCB of a number, counted from 1: its tests in their order, of which the first that fails answers, and then its own work. The tests are AD for
 /// the function, AJ, AC and AK for the segment search arguments, AM for PROCOPT, AH where ISRT has no argument, DJ where nothing is held, GP where GNP has no parent.
 ///
@@ -247,14 +295,7 @@ pub fn call_step<S: BlockStore>(
             io,
         );
     }
-    match resolve(alloc, function, texts, pcb, dbd) {
-        Ok(resolved) => {
-            let ssas = resolved.ssas();
-            answer_tested(
-                volume, dbd, pcb, positions, number, call, function, ssas, above, io,
-            )
-        }
-        Err(SsaFault::Status(status)) => Ok(fail(positions, number, status, io)),
-        Err(SsaFault::Memory) => Err(Refused::Memory),
-    }
+    answer_named(
+        alloc, volume, dbd, pcb, positions, number, call, function, above, io,
+    )
 }

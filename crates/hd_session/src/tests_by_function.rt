@@ -1,4 +1,4 @@
-ghost use Rattle.std.specs.Prelude.{◌≢◌, List, Bool, IfOk};
+ghost use Rattle.std.specs.Prelude.{◌≡◌, ◌≢◌, List, [], Bool, is_some, IfOk};
 ghost use Rattle.hd_dbd.specs.Segment.{Segment};
 ghost use Rattle.hd_dbd.specs.Positions.{Position as position};
 ghost use Rattle.hd_dbd.specs.Refusals.{OnlyDevice};
@@ -51,6 +51,19 @@ fn get_in_parent_test(
     None
 }
 
+/// The last tests of GNP and GHNP without arguments, where there is a parentage row or none.
+fn get_in_any_parent_test(dbd: &Dbd, pcb: &Pcb, has_parent: bool) -> Option<Status>
+    ensures { (rows : List Segment) (q : position) (hold : Bool) → has_parent ≡ is_some q.parent → AreLastTests (setting dbd.now pcb.now) rows q (Get NextInParent hold) [] result }
+{
+    if !get_allowed(dbd, pcb, &[]) {
+        return Some(Status::AM);
+    }
+    if !has_parent {
+        return Some(Status::GP);
+    }
+    None
+}
+
 /// The last tests of an ISRT.
 fn insert_test(dbd: &Dbd, pcb: &Pcb, ssas: &[ResolvedSsa<'_>]) -> Option<Status>
     ensures { (rows : List Segment) (q : position) → AreLastTests (setting dbd.now pcb.now) rows q Insert ssas.now result }
@@ -90,7 +103,28 @@ fn delete_test(dbd: &Dbd, pcb: &Pcb, ssas: &[ResolvedSsa<'_>], held: &[HeldRow])
     None
 }
 
-/// The last tests of a get of a kind. GNP reads the parentage row.
+/// The last tests of GNP and GHNP. With arguments the parentage row is read.
+fn test_get_in_parent<S: BlockStore>(
+    volume: &mut Volume<S>,
+    dbd: &Dbd,
+    pcb: &Pcb,
+    position: &Position,
+    ssas: &[ResolvedSsa<'_>],
+) -> Result<Option<Status>, Refused>
+    requires of { IsOf dbd.now volume.old }
+    requires there { HasPosition dbd.now volume.old position.now }
+    ensures read { IsRead volume.old result volume.new }
+    ensures value { IfOk result (λ o. (hold : Bool) → IsLastTest dbd.now volume.old pcb.now position.now (Get NextInParent hold) ssas.now o) }
+    ensures refusal { OnlyDevice result }
+{
+    if ssas.is_empty() {
+        return Ok(get_in_any_parent_test(dbd, pcb, position.parent() > 0));
+    }
+    let parent = parent_code(volume, dbd, position)?;
+    Ok(get_in_parent_test(dbd, pcb, ssas, parent))
+}
+
+/// The last tests of a get of a kind. GNP with arguments reads the parentage row.
 fn test_get<S: BlockStore>(
     volume: &mut Volume<S>,
     dbd: &Dbd,
@@ -108,10 +142,7 @@ fn test_get<S: BlockStore>(
     match kind {
         GetKind::Unique => Ok(get_test(dbd, pcb, ssas)),
         GetKind::Next => Ok(get_test(dbd, pcb, ssas)),
-        GetKind::NextInParent => {
-            let parent = parent_code(volume, dbd, position)?;
-            Ok(get_in_parent_test(dbd, pcb, ssas, parent))
-        }
+        GetKind::NextInParent => test_get_in_parent(volume, dbd, pcb, position, ssas),
     }
 }
 
@@ -151,8 +182,8 @@ fn test_delete<S: BlockStore>(
     Ok(delete_test(dbd, pcb, ssas, held.as_slice()))
 }
 
-/// The tests of a call behind those of its arguments, of which the first that fails answers: AM, AH, DJ, GP. Of the volume GNP reads
-/// the parentage row, REPL and DLET the held rows.
+/// The tests of a call behind those of its arguments, of which the first that fails answers: AM, AH, DJ, GP. Of the volume GNP with
+/// arguments reads the parentage row, REPL and DLET the held rows.
 pub fn last_test<S: BlockStore>(
     volume: &mut Volume<S>,
     dbd: &Dbd,
