@@ -1,5 +1,5 @@
 -- A get without arguments that goes on to the row just behind those passed.
-use Rattle.std.specs.Prelude.{ℕ, List, [], Some}
+use Rattle.std.specs.Prelude.{ℕ, [], Some}
 use Rattle.hd_dbd.specs.Hierarchy.{Database}
 use Rattle.hd_volume.specs.Volumes.{VolumeState}
 use Rattle.hd_forest.specs.Onward.{onward}

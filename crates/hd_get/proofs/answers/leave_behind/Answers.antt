@@ -1,4 +1,4 @@
-use Rattle.std.proofs.Common.{◌≡◌, ℕ, List, [], ◌∷◌, Option, cond, length, sym, ap, ap₂, subst, ◌∙◌}
+use Rattle.std.proofs.Common.{◌≡◌, ℕ, List, [], Option, cond, length, sym, ap, ap₂, subst, ◌∙◌}
 use Rattle.hd_dbd.specs.Positions.{Position, Place}
 use Rattle.hd_dbd.specs.Calls.{Reply}
 use Rattle.hd_links.specs.Steps.{rows_of}

@@ -1,4 +1,4 @@
-use Rattle.std.proofs.Common.{ℕ, ◌-◌, List, [], ◌∷◌, ◌++◌, take, sym, subst, ◌∙◌, ap, ap₂}
+use Rattle.std.proofs.Common.{ℕ, ◌-◌, List, [], ◌∷◌, ◌++◌, take, sym, subst, ◌∙◌, ap}
 use Rattle.hd_dbd.specs.Hierarchy.{level_of}
 use Rattle.hd_dbd.specs.Positions.{Place}
 use Rattle.hd_dbd.specs.Segment.{Segment}
