@@ -1,6 +1,8 @@
 -- What is read and noted of a segment that is lent.
-use Rattle.std.proofs.Common.{◌≡◌, ◌≢◌, ℕ, ◌+◌, ◌<◌, ◌≤◌, List, ◌++◌, length, take, true, refl, sym, ap, ap₂, subst, ◌∙◌, arith}
-use Rattle.std.specs.Prelude.{slice_index}
+use Rattle.std.proofs.Common.{◌≡◌, ◌≢◌, ℕ, ◌+◌, ◌<◌, ◌≤◌, List, [], ◌∷◌, ◌++◌, length, take, true, false, refl, sym, ap, ap₂, subst, ◌∙◌, arith}
+use Rattle.std.specs.Prelude.{◌==◌, slice_index}
+use Rattle.std.specs.List.{list_any}
+use Rattle.std.proofs.lemmas.Bool.{ne_eqb, false≢true}
 use Rattle.std.proofs.lemmas.List.{take_all, length-append, length-map, get_or-append-add, get_or-map}
 use Rattle.hd_dbd.specs.Types.{SegmentType}
 use Rattle.hd_dbd.specs.Prefixes.{children_of}
@@ -49,6 +51,14 @@ module _ (types : List SegmentType) (v : VolumeState) (a code : ℕ) (segment : 
   -- its child types are those that are listed for its code
   pub lent-types : child_types types ((links_of types v).code a) ≡ children_of types code
   lent-types = ap (child_types types) coded ∙ listed types code (children_of types code) (λ z. lent.typed (sym lent-own ∙ z)) refl
+
+  -- a segment of a type without child types names none
+  pub leaf-childless : (length (children_of types code) == 0) ≡ true → IsChildless types (links_of types v) a
+  leaf-childless none t child = absurd (no-type (children_of types code) none (sym (ap (list_any (λ u. u == t)) lent-types) ∙ child))
+    where
+      no-type : (xs : List ℕ) → (length xs == 0) ≡ true → list_any (λ u. u == t) xs ≡ true → ⊥
+      no-type [] e any = false≢true any
+      no-type (x ∷ xs) e any = false≢true (sym (ne_eqb (length (x ∷ xs)) 0 (λ (z : length (x ∷ xs) ≡ 0). omega arith)) ∙ e)
 
   -- what is noted behind others of the children that its bytes name is what its record names
   pub has-children : (xs ys : List Named) (p : ℕ) → p ≡ length xs → ys ≡ xs ++ named_in types code segment (children_of types code) → HasChildrenAt types (links_of types v) ys p a

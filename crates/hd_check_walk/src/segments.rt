@@ -41,11 +41,12 @@ fn key_front(key: &[u8]) -> [u8; FRONT]
     front
 }
 
-/// Where the segments of a type have what a walk asks of them.
+/// Where the segments of a type have what a walk asks of them, and whether the type has no child types.
 #[derive(Clone, Copy)]
 pub struct Form<'a> {
     layout: Layout<'a>,
     key: Option<KeyPlace>,
+    is_leaf: bool,
 }
 
 /// Where the segments of the type of a code have what a walk asks of them.
@@ -55,6 +56,7 @@ pub fn form_of<'a>(dbd: &'a Dbd, code: u8) -> Form<'a>
     Form {
         layout: Layout::of(dbd, code),
         key: key_place(dbd, code),
+        is_leaf: dbd.children_of(code).is_empty(),
     }
 }
 
@@ -76,10 +78,15 @@ pub fn seen_in(form: &Form, dbd: &Dbd, code: u8, segment: &[u8]) -> Option<Seen>
         return None;
     }
     let front = key_front(key_at(form.key, dbd, code, segment));
+    let is_childless = if form.is_leaf {
+        true
+    } else {
+        layout.names_no_children(segment)
+    };
     Some(Seen {
         forward: layout.read(segment, Pointer::TwinForward),
         backward: layout.read(segment, Pointer::TwinBackward),
         front,
-        is_childless: layout.names_no_children(segment),
+        is_childless,
     })
 }
