@@ -1,9 +1,9 @@
 -- What is read and noted of a segment that is lent.
-use Rattle.std.proofs.Common.{◌≡◌, ◌≢◌, ℕ, ◌+◌, ◌<◌, ◌≤◌, List, [], ◌∷◌, ◌++◌, length, take, true, false, refl, sym, ap, ap₂, subst, ◌∙◌, arith}
+use Rattle.std.proofs.Common.{◌≡◌, ℕ, ◌+◌, ◌<◌, List, [], ◌∷◌, ◌++◌, length, true, refl, sym, ap, ap₂, subst, ◌∙◌, arith}
 use Rattle.std.specs.Prelude.{◌==◌, slice_index}
 use Rattle.std.specs.List.{list_any}
 use Rattle.std.proofs.lemmas.Bool.{ne_eqb, false≢true}
-use Rattle.std.proofs.lemmas.List.{take_all, length-append, length-map, get_or-append-add, get_or-map}
+use Rattle.std.proofs.lemmas.List.{length-append, length-map, get_or-append-add, get_or-map}
 use Rattle.hd_dbd.specs.Types.{SegmentType}
 use Rattle.hd_dbd.specs.Prefixes.{children_of}
 use Rattle.hd_volume.specs.Volumes.{VolumeState}
@@ -11,7 +11,6 @@ use Rattle.hd_prefix.specs.declared.pointer.Pointer.{Pointer}
 use Rattle.hd_prefix.specs.declared.pointer.Pointer.TheVariants.{FirstChild, LastChild}
 use Rattle.hd_prefix.specs.Fields.{code_of, pointer_of}
 use Rattle.hd_links.specs.Links.{child_types}
-use Rattle.hd_links.proofs.Types.{is_in}
 use Rattle.hd_image.specs.Records.{links_of}
 use Rattle.hd_check_blocks.specs.Lending.{IsLent}
 use Rattle.hd_check_pointers.proofs.ChildPointers.{first-read, last-read}

@@ -35,7 +35,7 @@ fn key_front(key: &[u8]) -> [u8; FRONT]
         // Four bytes from each end, which may overlap.
         front[..4].copy_from_slice(&key[..4]);
         front[length - 4..length].copy_from_slice(&key[length - 4..]);
-    } else {
+    } else if length > 0 {
         front[..length].copy_from_slice(key);
     }
     front
