@@ -25,6 +25,11 @@ first_named-requires-clause-descend c =
     subst (λ (ssas : List Ssa). Descend c.args.trial.now.dbd.now.types None ssas) (sym c.ssas-ssas.ensures)
     (resolved_descend (record { types = c.args.trial.now.dbd.now.types; pcb = c.in-Some.pcb.now }) (Get Unique false) (map (λ s. s.items) c.deref-2.result.now) c.in-Ok-resolve.resolved c.in-Ok-resolve.ensures.ok)
 
+pub unique_by_key-requires-clause-descend : goal.unique_by_key-requires-clause-descend
+unique_by_key-requires-clause-descend c =
+    subst (λ (ssas : List Ssa). Descend c.args.trial.now.dbd.now.types None ssas) (sym c.ssas-ssas.ensures)
+    (resolved_descend (record { types = c.args.trial.now.dbd.now.types; pcb = c.in-Some.pcb.now }) (Get Unique false) (map (λ s. s.items) c.deref-2.result.now) c.in-Ok-resolve.resolved c.in-Ok-resolve.ensures.ok)
+
 pub find-requires-clause-suits : goal.find-requires-clause-suits
 find-requires-clause-suits c = (
   some (length c.ssas-ssas.result.now) c.is_empty.result c.is_empty.ensures c.if-is_empty.false,
