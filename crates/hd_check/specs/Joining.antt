@@ -1,7 +1,8 @@
 -- What the phases of a check find together: the least fault of all, and what is right where there is none.
-use Rattle.std.specs.Prelude.{◌≡◌, ◌≢◌, ◌==◌, true, Option, IfNone, IfSome, ℕ, ◌+◌, ◌<◌, List, [], ◌∷◌, cond}
+use Rattle.std.specs.Prelude.{◌≡◌, ◌≢◌, ◌==◌, true, IsTrue, Option, IfNone, IfSome, ℕ, ◌+◌, ◌<◌, List, [], ◌∷◌, cond}
 use Rattle.std.specs.List.{list_all}
 use Rattle.hd_dbd.specs.Hierarchy.{Database}
+use Rattle.hd_dbd.specs.DatabaseRules.{well_formed}
 use Rattle.hd_volume.specs.Headers.{header_of}
 use Rattle.hd_volume.specs.Volumes.{VolumeState}
 use Rattle.hd_index_blocks.specs.Faultless.{AreFormsRight}
@@ -11,7 +12,7 @@ use Rattle.hd_index_blocks.specs.IndexSets.{index_entries}
 use Rattle.hd_links.specs.Pointers.{AreLinked}
 use Rattle.hd_image.specs.Records.{links_of, IsVolumeOf}
 use Rattle.hd_image.specs.IndexFaults.{names_a_root}
-use Rattle.hd_image.specs.Right.{BlocksAreRight, IndexIsFormed, IndexIsInOrder, EntriesAreRight}
+use Rattle.hd_image.specs.Right.{BlocksAreRight, IndexIsFormed, SetIsFormed, IndexIsInOrder, LevelsAreInOrder, EntriesAreRight}
 use Rattle.hd_image.specs.Standing.{IsLeastFault, Stands, phase_of}
 use Rattle.hd_image.specs.declared.line.Line.{Line}
 use Rattle.hd_check_blocks.specs.declared.fault.Fault.{Fault}
@@ -34,6 +35,10 @@ pub record HasRightBlocks (d : Database) (v : VolumeState) (places : List Place)
   pub blocks : BlocksAreRight d v
   pub stand : ArePlaces d.types v places
 
+-- the fact holds where the database is well formed
+abbrev pub OfWellFormed : Database → Type 0 → Type 0
+OfWellFormed d fact = IsTrue (well_formed d.block_size d.frspc d.types) → fact
+
 -- Each entry names a root of its key, and each root has one.
 pub record NamesAreRight (d : Database) (v : VolumeState) : Type 0 where
   pub name : list_all (λ e. names_a_root d (links_of d.types v) e) (index_entries (root_key_length d.types) v) ≡ true
@@ -49,6 +54,14 @@ pub record IsFoundRight (d : Database) (v : VolumeState) (places : List Place) :
 -- the index is formed, and in order
 abbrev pub HasOrderedIndex : ℕ → VolumeState → Type 0
 HasOrderedIndex key_length v = IndexIsFormed key_length v × IndexIsInOrder key_length v
+
+-- the index set is formed, and each of its levels in order
+abbrev pub HasOrderedLevels : ℕ → VolumeState → Type 0
+HasOrderedLevels key_length v = SetIsFormed key_length v × LevelsAreInOrder key_length v
+
+-- the index is formed, and its entries are right
+abbrev pub HasRightIndex : Database → VolumeState → Type 0
+HasRightIndex d v = IndexIsFormed (root_key_length d.types) v × EntriesAreRight d v
 
 -- the fact holds of a volume of an index set whose blocks are right, where these were found of a size of blocks: the first block with a wrong next
 -- one, and the first with an entry out of order and what that names

@@ -7,12 +7,12 @@ ghost use Rattle.hd_volume.specs.Entries.{entry_blocks, entries};
 ghost use Rattle.hd_volume.specs.Indexes.{root_key_length, keys_ascend};
 ghost use Rattle.hd_index_blocks.specs.Faultless.{AreFormsRight, AreNamedOnce, AreAllReached};
 ghost use Rattle.hd_image.specs.Records.{IsVolumeOf};
-ghost use Rattle.hd_image.specs.Right.{ChainIsFormed, SetIsFormed, LevelsAreInOrder, IndexIsFormed, EntriesAreRight};
+ghost use Rattle.hd_image.specs.Right.{ChainIsFormed, LevelsAreInOrder};
 ghost use Rattle.hd_check_blocks.specs.Finding.{WhereNone, WhereSome};
 ghost use Rattle.hd_check_index.specs.IndexPhases.{IsSequence};
 ghost use Rattle.hd_check_index.specs.Tables.{AreIndexBlocks};
 ghost use Rattle.hd_check_index.specs.Rows.{AreRows};
-ghost use Rattle.hd_check.specs.Joining.{HasRightBlocks, NamesAreRight, HasOrderedIndex};
+ghost use Rattle.hd_check.specs.Joining.{HasRightBlocks, NamesAreRight, HasOrderedIndex, HasOrderedLevels, HasRightIndex};
 ghost use Rattle.hd_check.specs.Lists.{NoneOfIndexBefore, AreIndexFaults};
 
 use crate::levels::note_sequence;
@@ -209,7 +209,7 @@ fn level_rows_faults<S: BlockStore>(
     requires blocks { IsTrue volume.old.is_sound → AreIndexBlocks volume.old blocks.now }
     requires forms { IsTrue volume.old.is_sound → AreFormsRight (root_key_length dbd.now.types) volume.old }
     ensures read { IsRead volume.old result volume.new }
-    ensures none { WhereNone volume.old result (SetIsFormed (root_key_length dbd.now.types) volume.old × LevelsAreInOrder (root_key_length dbd.now.types) volume.old) }
+    ensures none { WhereNone volume.old result (HasOrderedLevels (root_key_length dbd.now.types) volume.old) }
     ensures some { WhereSome volume.old result (λ l. AreIndexFaults dbd.now volume.old l.items × (l.items ≢ [])) }
     ensures refusal { OnlyDeviceOrMemory result }
 {
@@ -314,7 +314,7 @@ pub fn index_faults<S: BlockStore>(
     requires right { IsTrue volume.old.is_sound → HasRightBlocks dbd.now volume.old places.now }
     ensures read { IsRead volume.old result volume.new }
     ensures faults { IfOk result (λ faults. IsTrue volume.old.is_sound → AreIndexFaults dbd.now volume.old faults.items) }
-    ensures none { IfOk result (λ faults. IsTrue volume.old.is_sound → faults.items ≡ [] → IndexIsFormed (root_key_length dbd.now.types) volume.old × EntriesAreRight dbd.now volume.old) }
+    ensures none { IfOk result (λ faults. IsTrue volume.old.is_sound → faults.items ≡ [] → HasRightIndex dbd.now volume.old) }
     ensures refusal { OnlyDeviceOrMemory result }
 {
     let mut sequence = Vec::new(alloc);

@@ -14,7 +14,7 @@ ghost use Rattle.hd_check_blocks.specs.Finding.{WhereNone, WhereSome};
 ghost use Rattle.hd_check_index.specs.IndexPhases.{IsSequence};
 ghost use Rattle.hd_check_index.specs.Tables.{AreIndexBlocks};
 ghost use Rattle.hd_check_index.specs.Rows.{AreRows};
-ghost use Rattle.hd_check.specs.Joining.{NoneBefore, IsFirstFault, OfOrdered, HasOrderedIndex};
+ghost use Rattle.hd_check.specs.Joining.{NoneBefore, IsFirstFault, OfOrdered, HasOrderedIndex, HasOrderedLevels};
 
 use hd_check_blocks::Fault;
 use hd_check_index::{
@@ -212,7 +212,7 @@ fn level_rows_fault<S: BlockStore>(
     requires forms { IsTrue volume.old.is_sound → AreFormsRight (root_key_length dbd.now.types) volume.old }
     requires before { IsTrue volume.old.is_sound → NoneBefore dbd.now volume.old 9 }
     ensures read { IsRead volume.old result volume.new }
-    ensures none { WhereNone volume.old result (SetIsFormed (root_key_length dbd.now.types) volume.old × LevelsAreInOrder (root_key_length dbd.now.types) volume.old) }
+    ensures none { WhereNone volume.old result (HasOrderedLevels (root_key_length dbd.now.types) volume.old) }
     ensures some { WhereSome volume.old result (λ f. IsFirstFault dbd.now volume.old f) }
     ensures refusal { OnlyDeviceOrMemory result }
 {

@@ -2,7 +2,6 @@
 ghost use Rattle.std.specs.Prelude.{◌≡◌, ◌<◌, [], IsTrue, IfOk, IfNone};
 ghost use Rattle.hd_dbd.specs.Refusals.{OnlyDeviceOrMemory};
 ghost use Rattle.hd_dbd.specs.Facts.{stored_sizes};
-ghost use Rattle.hd_dbd.specs.DatabaseRules.{well_formed};
 ghost use Rattle.hd_volume.specs.Calls.{IsRead};
 ghost use Rattle.hd_links.specs.Pointers.{AreLinked};
 ghost use Rattle.hd_image.specs.Records.{links_of};
@@ -10,7 +9,7 @@ ghost use Rattle.hd_image.specs.Standing.{phase_of};
 ghost use Rattle.hd_check_pointers.specs.Tables.{AreForwards, ArePredecessors};
 ghost use Rattle.hd_check_pointers.specs.Matched.{IsMatched};
 ghost use Rattle.hd_check_blocks.specs.Finding.{WhereNone, WhereSome};
-ghost use Rattle.hd_check.specs.Joining.{NoneBefore, HasRightBlocks};
+ghost use Rattle.hd_check.specs.Joining.{NoneBefore, HasRightBlocks, OfWellFormed};
 ghost use Rattle.hd_check.specs.Lists.{BeginsWith, AreFirstFaults, AreFaultsOf, AreFaultsBehind};
 
 use crate::index_lists::index_faults;
@@ -36,7 +35,7 @@ fn image_faults<S: BlockStore>(
     requires empty { places.old.items ≡ [] }
     requires size { (volume.old.size ≡ dbd.now.block_size) × (volume.old.sizes ≡ stored_sizes dbd.now.types) }
     ensures read { IsRead volume.old result volume.new }
-    ensures none { IfOk result (λ o. IsTrue volume.old.is_sound → IsTrue (well_formed dbd.now.block_size dbd.now.frspc dbd.now.types) → IfNone o (HasRightBlocks dbd.now volume.old places.new.items)) }
+    ensures none { IfOk result (λ o. IsTrue volume.old.is_sound → OfWellFormed dbd.now (IfNone o (HasRightBlocks dbd.now volume.old places.new.items))) }
     ensures some { WhereSome volume.old result (λ l. AreFirstFaults dbd.now volume.old l.items) }
     ensures early { WhereSome volume.old result (λ l. BeginsWith (λ f. phase_of f.line < 3) l.items) }
     ensures refusal { OnlyDeviceOrMemory result }

@@ -8,11 +8,11 @@ ghost use Rattle.hd_volume.specs.Entries.{entry_blocks, entries};
 ghost use Rattle.hd_volume.specs.Indexes.{root_key_length, keys_ascend};
 ghost use Rattle.hd_links.specs.Pointers.{AreLinked};
 ghost use Rattle.hd_image.specs.Records.{links_of, IsVolumeOf};
-ghost use Rattle.hd_image.specs.Right.{ChainIsFormed, IndexIsFormed, EntriesAreRight};
+ghost use Rattle.hd_image.specs.Right.{ChainIsFormed};
 ghost use Rattle.hd_check_pointers.specs.Tables.{AreForwards, ArePredecessors};
 ghost use Rattle.hd_check_pointers.specs.Matched.{IsMatched};
 ghost use Rattle.hd_check_index.specs.IndexPhases.{IsSequence};
-ghost use Rattle.hd_check.specs.Joining.{NoneBefore, IsFirstFault, HasRightBlocks, NamesAreRight, IsFoundRight, HasOrderedIndex};
+ghost use Rattle.hd_check.specs.Joining.{NoneBefore, IsFirstFault, HasRightBlocks, NamesAreRight, IsFoundRight, OfWellFormed, HasOrderedIndex, HasRightIndex};
 ghost use Rattle.hd_check_blocks.specs.Finding.{WhereNone, WhereSome};
 
 use crate::levels::levels_fault;
@@ -41,7 +41,7 @@ fn image_fault<S: BlockStore>(
     requires empty { places.old.items ≡ [] }
     requires size { (volume.old.size ≡ dbd.now.block_size) × (volume.old.sizes ≡ stored_sizes dbd.now.types) }
     ensures read { IsRead volume.old result volume.new }
-    ensures none { IfOk result (λ o. IsTrue volume.old.is_sound → IsTrue (well_formed dbd.now.block_size dbd.now.frspc dbd.now.types) → IfNone o (HasRightBlocks dbd.now volume.old places.new.items)) }
+    ensures none { IfOk result (λ o. IsTrue volume.old.is_sound → OfWellFormed dbd.now (IfNone o (HasRightBlocks dbd.now volume.old places.new.items))) }
     ensures some { WhereSome volume.old result (λ f. IsFirstFault dbd.now volume.old f) }
     ensures refusal { OnlyDeviceOrMemory result }
 {
@@ -247,7 +247,7 @@ pub fn index_fault<S: BlockStore>(
     requires right { IsTrue volume.old.is_sound → HasRightBlocks dbd.now volume.old places.now }
     requires before { IsTrue volume.old.is_sound → NoneBefore dbd.now volume.old 8 }
     ensures read { IsRead volume.old result volume.new }
-    ensures none { WhereNone volume.old result (IndexIsFormed (root_key_length dbd.now.types) volume.old × EntriesAreRight dbd.now volume.old) }
+    ensures none { WhereNone volume.old result (HasRightIndex dbd.now volume.old) }
     ensures some { WhereSome volume.old result (λ f. IsFirstFault dbd.now volume.old f) }
     ensures refusal { OnlyDeviceOrMemory result }
 {
