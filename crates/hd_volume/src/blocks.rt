@@ -104,7 +104,12 @@ impl<S: BlockStore> Blocks<S> {
         ensures within { result.1 < self.now.size }
     {
         let size = self.block_size as u32;
-        (address / size, (address % size) as usize)
+        // Where the size is a power of two, as it mostly is, a shift spares a division.
+        let n = address.wrapping_shr(size.trailing_zeros());
+        match offset_in(address, n, size) {
+            Some(at) => (n, at),
+            None => (address / size, (address % size) as usize),
+        }
     }
 
     /// All bytes, which need be no whole number of blocks.
@@ -182,12 +187,10 @@ impl<S: BlockStore> Blocks<S> {
         ensures offset { IfSome result (λ at. at ≡ address % self.now.size) }
         ensures within { IfSome result (λ at. at < self.now.size) }
     {
-        let size = self.block_size as u32;
-        let first = self.hand.number.checked_mul(size)?;
-        if !self.hand.holds || address < first || address - first >= size {
+        if !self.hand.holds {
             return None;
         }
-        Some((address - first) as usize)
+        offset_in(address, self.hand.number, self.block_size as u32)
     }
 
     /// Brings the block that an address past block 0 is in to hand, and says the offset there.
@@ -396,4 +399,18 @@ fn give_to(bytes: &mut [u8], sizes: &[SegmentSize], offset: u16, size: u16)
     ensures given { IsGiven sizes.now offset size bytes.old bytes.new }
 {
     Block::new(bytes, sizes).give(offset, size);
+}
+
+/// The offset of an address in the block of a number, of so many bytes; `None` where it is not in that. Nothing is divided.
+fn offset_in(address: u32, n: u32, size: u32) -> Option<usize>
+    ensures number { IfSome result (λ at. n ≡ address / size) }
+    ensures offset { IfSome result (λ at. at ≡ address % size) }
+    ensures within { IfSome result (λ at. at < size) }
+{
+    let first = u64::from(n) * u64::from(size);
+    let at = u64::from(address).checked_sub(first)?;
+    if at >= u64::from(size) {
+        return None;
+    }
+    Some(at as usize)
 }

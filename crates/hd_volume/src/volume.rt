@@ -1,5 +1,5 @@
 ghost use Rattle.std.specs.Vec.{vec_capacity};
-ghost use Rattle.std.specs.Prelude.{◌≡◌, ◌+◌, ◌-◌, ◌%◌, ◌≤◌, ◌<◌, true, false, vec_len, IsTrue, length, min, slice_index, IfOk, IfErr, OnOk, OnErr, Some};
+ghost use Rattle.std.specs.Prelude.{◌≡◌, ◌+◌, ◌-◌, ◌/◌, ◌%◌, ◌≤◌, ◌<◌, true, false, vec_len, IsTrue, length, min, slice_index, IfOk, IfErr, OnOk, OnErr, Some};
 ghost use Rattle.hd_bytes.specs.Blocks.{block_of, HasBlock};
 ghost use Rattle.hd_dbd.specs.Facts.{stored_sizes};
 ghost use Rattle.hd_dbd.specs.Refusals.{OnlyDevice, OnlyMemory};
@@ -225,6 +225,13 @@ impl<S: BlockStore> Volume<S> {
         }
         self.blocks.fetch(n)?;
         Ok(self.blocks.hand())
+    }
+
+    /// The number of the block that an address is in.
+    pub fn block_number(&self, address: u32) -> u32
+        ensures { result ≡ address / self.now.size }
+    {
+        self.blocks.place(address).0
     }
 
     /// The kind of a block behind block 0, one of the first 65,536. No block is read.
