@@ -28,6 +28,11 @@ pub record HasTwin (places : TwinPlaces) (block : List ℕ) (start a : ℕ) : Ty
   pub behind : start ≤ a
   pub within : a - start + end_of_places places ≤ length block
 
+-- A block of so many bytes has room at a place for a twin, and for eight bytes from where its key begins.
+pub record HasRoom (places : TwinPlaces) (size place : ℕ) : Type 0 where
+  pub whole : place + end_of_places places ≤ size
+  pub eight : place + places.key + 8 ≤ size
+
 -- the twin forward of a twin in a block
 abbrev pub forward_in : TwinPlaces → List ℕ → ℕ → ℕ → ℕ
 forward_in places block start a = number_at 4 block (a - start + places.forward)

@@ -4,7 +4,7 @@ ghost use Rattle.std.specs.Int.{from_be_bytes, w64};
 ghost use Rattle.std.specs.Ordering.{nat_cmp, is_lt};
 ghost use Rattle.std.specs.Cmp.Lexicographic.{slice_cmp};
 ghost use Rattle.hd_bytes.specs.Ranges.{bytes_at};
-ghost use Rattle.hd_forest.specs.BlockTwins.{IsNumberOf, HasTwin, key_in, IsPassage, IsWalk};
+ghost use Rattle.hd_forest.specs.BlockTwins.{IsNumberOf, HasTwin, HasRoom, key_in, IsPassage, IsWalk};
 
 use crate::twins::TwinPlaces;
 use hd_bytes::{read_u32, write_bytes};
@@ -97,6 +97,29 @@ fn has_twin(places: TwinPlaces, block: &[u8], start: u32, twin: u32) -> bool
     end <= block.len() && start <= twin && (twin - start) as usize <= block.len() - end
 }
 
+/// The last place in a block where a twin can stand with its twin forward and its key, and with eight bytes where that begins; `None` where there is none.
+fn last_place(places: TwinPlaces, block: &[u8]) -> Option<usize>
+    ensures { IfSome result (λ last. HasRoom places (length block.now) last) }
+{
+    let own = places.key.saturating_add(places.length.max(8));
+    let end = own.max(places.forward as usize + 4);
+    block.len().checked_sub(end)
+}
+
+/// The place of a twin in a block, whose first byte has an address, up to a last one; `None` where it is not there.
+fn place_up_to(start: u32, twin: u32, last: usize) -> Option<usize>
+    ensures { IfSome result (λ place. (start ≤ twin) × (place ≡ twin - start) × (place ≤ last)) }
+{
+    if twin < start {
+        return None;
+    }
+    let place = (twin - start) as usize;
+    if place > last {
+        return None;
+    }
+    Some(place)
+}
+
 /// Passes over the twins of a block, whose first byte has an address, from one on, behind another, as far as their keys are below a key, which has a
 /// number, and eight bytes stand where each key begins. Nothing is called on the way, so that a twin takes few steps.
 fn pass_by_number(
@@ -111,28 +134,25 @@ fn pass_by_number(
     requires number { IsNumberOf places.length key.now number }
     ensures { IsPassage places block.now start key.now behind address result }
 {
-    let most = block.len();
-    let end = most.saturating_sub(7);
     let mut before = behind;
     let mut twin = address;
+    let Some(last) = last_place(places, block) else {
+        return Walk {
+            before,
+            twin,
+            is_found: false,
+        };
+    };
+    let most = block.len();
     for count in 0..most {
-        if !has_twin(places, block, start, twin) {
+        let Some(at) = place_up_to(start, twin, last) else {
             return Walk {
                 before,
                 twin,
                 is_found: false,
             };
-        }
-        let at = (twin - start) as usize;
-        let place = at + places.key;
-        if place >= end {
-            return Walk {
-                before,
-                twin,
-                is_found: false,
-            };
-        }
-        if !is_number_below(block, place, places.length, key, number) {
+        };
+        if !is_number_below(block, at + places.key, places.length, key, number) {
             return Walk {
                 before,
                 twin,

@@ -4,8 +4,8 @@ ghost use Rattle.hd_dbd.specs.Refusals.{OnlyDevice};
 ghost use Rattle.hd_volume.specs.Calls.{IsRead};
 ghost use Rattle.hd_prefix.specs.declared.pointer.Pointer.TheVariants.{FirstChild};
 ghost use Rattle.hd_prefix.specs.Fields.{code_of, pointer_of};
-ghost use Rattle.hd_links.specs.Links.{IsSegment, child_types};
-ghost use Rattle.hd_links.specs.Steps.{child_among, later_than};
+ghost use Rattle.hd_links.specs.Links.{IsSegment};
+ghost use Rattle.hd_links.specs.Steps.{later_than};
 ghost use Rattle.hd_image.specs.Records.{links_of, IsVolumeOf};
 ghost use Rattle.hd_forest.specs.Children.{child_in, comes_before, last_named_in, last_type_of, child_behind};
 
@@ -39,10 +39,8 @@ fn names_no_children(dbd: &Dbd, segment: &[u8]) -> bool
 pub fn child_in(dbd: &Dbd, segment: &[u8], types: &[u8]) -> u32
     ensures { prefix_length dbd.now.types (code_of segment.now) ≤ length segment.now → result ≡ child_in dbd.now.types segment.now types.now }
 {
-    if types.is_empty() {
-        return 0;
-    }
-    if names_no_children(dbd, segment) {
+    // One look at the prefix spares several pointers, but not one.
+    if types.len() > 1 && names_no_children(dbd, segment) {
         return 0;
     }
     for code in types {
@@ -78,19 +76,6 @@ fn last_named_in(dbd: &Dbd, segment: &[u8], end: Option<u8>, types: &[u8]) -> u8
         }
     }
     last
-}
-
-/// The first row below a segment, 0 for none.
-pub fn below<S: BlockStore>(volume: &mut Volume<S>, dbd: &Dbd, address: u32) -> Result<u32, Refused>
-    requires of { IsTrue volume.old.is_sound → IsVolumeOf dbd.now volume.old }
-    requires there { IsTrue volume.old.is_sound → IsSegment (links_of dbd.now.types volume.old) address }
-    ensures read { IsRead volume.old result volume.new }
-    ensures value { let m = links_of dbd.now.types volume.old in IfOk result (λ r. IsTrue volume.old.is_sound → r ≡ child_among m address (child_types dbd.now.types (m.code address))) }
-    ensures refusal { OnlyDevice result }
-{
-    let segment = volume.segment_at(address)?;
-    let types = dbd.children_of(code_in(segment));
-    Ok(child_in(dbd, segment, types))
 }
 
 /// The first row below a segment of a type behind a type, 0 for none.

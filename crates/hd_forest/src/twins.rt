@@ -87,7 +87,7 @@ fn pass_block<S: BlockStore>(
     ensures refusal { OnlyDevice result }
 {
     let size = volume.block_size() as u32;
-    let n = address / size;
+    let n = volume.block_number(address);
     let block = volume.block(n)?;
     let walk = pass_in(places, block, n * size, behind, address, key, number);
     Ok((walk, is_equal(places, block, n * size, key, walk)))

@@ -1,19 +1,19 @@
-ghost use Rattle.std.specs.Prelude.{◌≡◌, ◌-◌, ◌<◌, ◌&&◌, ◌==◌, not, length, IsTrue, IfOk, OnOk};
+ghost use Rattle.std.specs.Prelude.{◌≡◌, ◌<◌, length, IsTrue, IfOk, OnOk};
 ghost use Rattle.hd_dbd.specs.Refusals.{OnlyDevice};
 ghost use Rattle.hd_volume.specs.Calls.{IsCall, IsRead};
 ghost use Rattle.hd_links.specs.Links.{IsSegment};
 ghost use Rattle.hd_links.specs.Steps.{LeadsDown};
 ghost use Rattle.hd_image.specs.Records.{links_of, IsVolumeOf};
 ghost use Rattle.hd_image.specs.Pointing.{without_record};
-ghost use Rattle.hd_forest.specs.Walks.{AreSegments, HasForest};
+ghost use Rattle.hd_forest.specs.Walks.{AreSegments, HasForest, IsAhead, tip};
 ghost use Rattle.hd_forest.specs.Sets.{IsRecorded};
-ghost use Rattle.hd_forest.specs.Spans.{HasSpan, below_on, beside_on, extended, freed_last, freed_on, IsStep, freeing, IsFreedSpan};
+ghost use Rattle.hd_forest.specs.Spans.{HasSpan, below_on, beside_on, freed_last, freed_on, IsStep, freeing, IsFreedSpan};
 ghost use Rattle.hd_forest.specs.Updates.{IsUnlinked};
 
-use crate::children::below;
+use crate::children::below_later;
 use crate::path::Path;
 use crate::read::{code_at, next_twin, parent_on, prev_twin, tip_of};
-use crate::walk::beside;
+use crate::walk::{Ahead, look_ahead};
 use crate::write::{set_following, set_preceding};
 use hd_dbd::{Dbd, Refused};
 use hd_stores::BlockStore;
@@ -81,56 +81,32 @@ fn free_next<S: BlockStore>(
     ensures refusal { OnlyDevice result }
     ensures room { volume.new.room ≡ volume.old.room }
 {
-    if go_down(volume, dbd, path, down)? {
+    let ahead = look_ahead(volume, dbd, tip_of(path))?;
+    if down && ahead.below != 0 {
+        path.push(ahead.below);
         return Ok(true);
     }
-    free_last(volume, dbd, path)
+    free_last(volume, dbd, path, ahead)
 }
 
-/// Goes down to the first row below the last of a path, if that is asked for; says whether it did.
-fn go_down<S: BlockStore>(
-    volume: &mut Volume<S>,
-    dbd: &Dbd,
-    path: &mut Path,
-    down: bool,
-) -> Result<bool, Refused>
-    requires of { IsTrue volume.old.is_sound → IsVolumeOf dbd.now volume.old }
-    requires there { IsTrue volume.old.is_sound → AreSegments (links_of dbd.now.types volume.old) path.old }
-    requires some { IsTrue volume.old.is_sound → 0 < length path.old }
-    requires deep { IsTrue volume.old.is_sound → IsTrue down → 0 < below_on dbd.now.types (links_of dbd.now.types volume.old) path.old → length path.old < 15 }
-    ensures read { IsRead volume.old result volume.new }
-    ensures value { IfOk result (λ r. IsTrue volume.old.is_sound → r ≡ (down && not (below_on dbd.now.types (links_of dbd.now.types volume.old) path.old == 0))) }
-    ensures path { IfOk result (λ r. IsTrue volume.old.is_sound → IsTrue r → path.new ≡ extended path.old (below_on dbd.now.types (links_of dbd.now.types volume.old) path.old)) }
-    ensures kept { IfOk result (λ r. IsTrue (not r) → path.new ≡ path.old) }
-    ensures refusal { OnlyDevice result }
-{
-    if !down {
-        return Ok(false);
-    }
-    let child = below(volume, dbd, tip_of(path))?;
-    if child == 0 {
-        return Ok(false);
-    }
-    path.push(child);
-    Ok(true)
-}
-
-/// Frees the segment of the last row of a path, and goes to what stands beside it, or else to its parent. Says whether
-/// something stands beside it.
+/// Frees the segment of the last row of a path, which names this ahead of it, and goes to what stands beside it, or else to its parent. Says
+/// whether something stands beside it.
 fn free_last<S: BlockStore>(
     volume: &mut Volume<S>,
     dbd: &Dbd,
     path: &mut Path,
+    ahead: Ahead,
 ) -> Result<bool, Refused>
     requires of { IsTrue volume.old.is_sound → IsVolumeOf dbd.now volume.old }
     requires there { IsTrue volume.old.is_sound → AreSegments (links_of dbd.now.types volume.old) path.old }
     requires some { IsTrue volume.old.is_sound → 0 < length path.old }
+    requires ahead { IsTrue volume.old.is_sound → IsAhead dbd.now.types (links_of dbd.now.types volume.old) (tip path.old) ahead }
     ensures call { IsCall volume.old result volume.new }
     ensures freed { IfOk result (λ r. IsTrue volume.old.is_sound → IsStep dbd.now volume.old (freed_last dbd.now.types (freeing dbd.now volume.old path.old r)) path.new r volume.new) }
     ensures refusal { OnlyDevice result }
     ensures room { volume.new.room ≡ volume.old.room }
 {
-    let next = beside_last(volume, dbd, path)?;
+    let next = beside_last(volume, dbd, path, ahead)?;
     free_record(volume, dbd, tip_of(path))?;
     path.up();
     if next == 0 {
@@ -140,16 +116,17 @@ fn free_last<S: BlockStore>(
     Ok(true)
 }
 
-/// What stands beside the last row of a path, as far as its twins and its parent on the path tell, 0 for none; 0 for the
-/// first row of the path.
+/// What stands beside the last row of a path, which names this ahead of it, as far as its twins and its parent on the path tell, 0 for none; 0 for the
+/// first row of the path. The parent is read where there is no next twin.
 fn beside_last<S: BlockStore>(
     volume: &mut Volume<S>,
     dbd: &Dbd,
     path: &Path,
+    ahead: Ahead,
 ) -> Result<u32, Refused>
     requires of { IsTrue volume.old.is_sound → IsVolumeOf dbd.now volume.old }
     requires there { IsTrue volume.old.is_sound → AreSegments (links_of dbd.now.types volume.old) path.now }
-    requires some { IsTrue volume.old.is_sound → 0 < length path.now }
+    requires ahead { IsTrue volume.old.is_sound → IsAhead dbd.now.types (links_of dbd.now.types volume.old) (tip path.now) ahead }
     ensures read { IsRead volume.old result volume.new }
     ensures value { IfOk result (λ r. IsTrue volume.old.is_sound → r ≡ beside_on dbd.now.types (links_of dbd.now.types volume.old) path.now) }
     ensures refusal { OnlyDevice result }
@@ -158,7 +135,10 @@ fn beside_last<S: BlockStore>(
     if parent == 0 {
         return Ok(0);
     }
-    beside(volume, dbd, parent, tip_of(path))
+    if ahead.twin != 0 {
+        return Ok(ahead.twin);
+    }
+    below_later(volume, dbd, parent, ahead.code)
 }
 
 /// Frees a segment: the records are without it.

@@ -1,4 +1,4 @@
-ghost use Rattle.std.specs.Prelude.{◌≡◌, ◌<◌, true, IsTrue, IsFalse, IfOk, IfErr, IfNone, IfSome, OnOk};
+ghost use Rattle.std.specs.Prelude.{◌≡◌, ◌<◌, true, IsTrue, IsFalse, IfOk, IfErr, IfSome, OnOk};
 ghost use Rattle.hd_dbd.specs.Refusals.{OnlyDevice};
 ghost use Rattle.hd_volume.specs.Calls.{IsRead};
 ghost use Rattle.hd_links.specs.Links.{IsSegment};
@@ -18,9 +18,9 @@ use hd_volume::Volume;
 /// What a segment names ahead of it: the first row below it, its next twin, 0 for none each, and its code.
 #[derive(Clone, Copy)]
 pub struct Ahead {
-    below: u32,
-    twin: u32,
-    code: u8,
+    pub(crate) below: u32,
+    pub(crate) twin: u32,
+    pub(crate) code: u8,
 }
 
 /// Goes from the last row of a path to the row behind it, and from no path to the first root; behind the last row is none.
@@ -182,7 +182,7 @@ fn step<S: BlockStore>(
 }
 
 /// What the segment at an address names ahead of it. One segment is read.
-fn look_ahead<S: BlockStore>(
+pub(crate) fn look_ahead<S: BlockStore>(
     volume: &mut Volume<S>,
     dbd: &Dbd,
     address: u32,

@@ -5,9 +5,12 @@ use Rattle.hd_image.specs.Pointing.{without_record}
 use Rattle.hd_forest.specs.Walks.{tip}
 use Rattle.hd_forest.specs.Sets.{IsRecorded}
 use Rattle.hd_forest.proofs.Climbs.{tip-some}
-use Rattle.hd_forest.proofs.Reading.{after-read, links-kept}
+use Rattle.hd_forest.proofs.Reading.{after-read, links-kept, volume-kept}
 use Rattle.hd_forest.proofs.Freed.{recorded-after, last-none, last-some}
 use Rattle.hd_forest.proofs.unlink.free_last.Goals as goal
+
+pub free_record-requires-clause-of : goal.free_record-requires-clause-of
+free_record-requires-clause-of g c = volume-kept c.args.dbd.now c.args.volume.now c.beside_last.new.volume c.in_ok-next.ensures.read c.requires.of
 
 pub free_record-requires-clause-there : goal.free_record-requires-clause-there
 free_record-requires-clause-there g c =
