@@ -22,4 +22,5 @@ pub mod WorkedSample
 pub mod Loading
 pub mod KeyOrder
 pub mod EightBytes
+pub mod KeyNumbers
 mod Under

@@ -7,6 +7,7 @@ pub mod Lengths
 pub mod Prefixes
 pub mod Facts
 pub mod IndexBlocks
+pub mod KeyNumbers
 pub mod DatabaseRules
 pub mod DatabaseFaults
 pub mod Letters

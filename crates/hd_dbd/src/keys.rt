@@ -88,7 +88,7 @@ fn compare_four(one: &[u8], other: &[u8]) -> Ordering
 }
 
 /// The number that the first eight bytes make, the highest first.
-fn number_of_eight(bytes: &[u8]) -> u64
+pub(crate) fn number_of_eight(bytes: &[u8]) -> u64
     requires { 8 ≤ length bytes.now }
     ensures { result ≡ from_be_bytes w64 (take 8 bytes.now) }
 {
@@ -98,7 +98,7 @@ fn number_of_eight(bytes: &[u8]) -> u64
 }
 
 /// The number that the first four bytes make, the highest first.
-fn number_of_four(bytes: &[u8]) -> u32
+pub(crate) fn number_of_four(bytes: &[u8]) -> u32
     requires { 4 ≤ length bytes.now }
     ensures { result ≡ from_be_bytes w32 (take 4 bytes.now) }
 {

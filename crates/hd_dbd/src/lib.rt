@@ -9,6 +9,7 @@ mod database;
 mod facts;
 mod fault_law;
 mod hierarchy;
+mod key_numbers;
 mod keys;
 mod law;
 mod lengths;
@@ -24,6 +25,7 @@ pub use database::{Dbd, DbdFault};
 pub use facts::{SegmentSize, type_of};
 pub use fault_law::{law_databases_have_no_fault, law_programs_have_no_fault};
 pub use hierarchy::{DataType, Field, FreeSpace, Key, Rule, SegType};
+pub use key_numbers::{is_number_below, number_of_key};
 pub use keys::{compare_keys, key_in};
 pub use law::{
     law_levels_follow_parents, law_loaded_rows_are_valid, law_paths_follow_parents,

@@ -23,7 +23,6 @@ pub mod Taken
 pub mod Unlinks
 pub mod UnlinkSpan
 pub mod TwinsBelow
-pub mod KeyNumbers
 pub mod Passing
 pub mod BlockTwins
 pub mod SegmentsSet

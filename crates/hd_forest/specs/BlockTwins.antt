@@ -1,6 +1,5 @@
 -- Twins of one block, by its bytes alone.
-use Rattle.std.specs.Prelude.{◌≡◌, ℕ, zero, suc, ◌+◌, ◌-◌, ◌*◌, ◌/◌, ◌<◌, ◌≤◌, max, List, ◌++◌, length, take, drop, replicate, Bool, true, false}
-use Rattle.std.specs.Int.{from_be_bytes, w64}
+use Rattle.std.specs.Prelude.{◌≡◌, ℕ, zero, suc, ◌+◌, ◌-◌, ◌*◌, ◌/◌, ◌<◌, ◌≤◌, max, List, length, Bool, true, false}
 use Rattle.std.specs.Ordering.{nat_cmp, is_lt}
 use Rattle.std.specs.Cmp.Lexicographic.{slice_cmp}
 use Rattle.hd_bytes.specs.Ranges.{bytes_at}
@@ -8,16 +7,6 @@ use Rattle.hd_bytes.specs.Numbers.{number_at}
 use Rattle.hd_volume.specs.Volumes.{VolumeState, block_at}
 use Rattle.hd_forest.specs.declared.twins.TwinPlaces.{TwinPlaces}
 use Rattle.hd_forest.specs.declared.block_twins.Walk.{Walk}
-
--- a key with zeros behind it up to eight bytes
-abbrev pub with_zeros : List ℕ → List ℕ
-with_zeros key = key ++ drop (length key) (replicate 8 0)
-
--- A number stands for a key of n bytes, eight at most: it is that of the key with zeros behind it.
-pub record IsNumberOf (n : ℕ) (key : List ℕ) (number : ℕ) : Type 0 where
-  pub long : length key ≡ n
-  pub short : n ≤ 8
-  pub is : number ≡ from_be_bytes w64 (take 8 (with_zeros key))
 
 -- so many first bytes of a segment hold its twin forward and its key
 abbrev pub end_of_places : TwinPlaces → ℕ

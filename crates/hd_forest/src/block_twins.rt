@@ -1,14 +1,14 @@
 //! Twins of one block, passed over by their keys.
-ghost use Rattle.std.specs.Prelude.{◌≡◌, ◌+◌, ◌-◌, ◌<◌, ◌≤◌, ◌↔◌, true, length, take, IfSome};
-ghost use Rattle.std.specs.Int.{from_be_bytes, w64};
+ghost use Rattle.std.specs.Prelude.{◌≡◌, ◌+◌, ◌-◌, ◌<◌, ◌≤◌, ◌↔◌, true, length, IfSome};
 ghost use Rattle.std.specs.Ordering.{nat_cmp, is_lt};
 ghost use Rattle.std.specs.Cmp.Lexicographic.{slice_cmp};
 ghost use Rattle.hd_bytes.specs.Ranges.{bytes_at};
-ghost use Rattle.hd_forest.specs.BlockTwins.{IsNumberOf, HasTwin, HasRoom, key_in, IsPassage, IsWalk};
+ghost use Rattle.hd_dbd.specs.KeyNumbers.{IsNumberOf};
+ghost use Rattle.hd_forest.specs.BlockTwins.{HasTwin, HasRoom, key_in, IsPassage, IsWalk};
 
 use crate::twins::TwinPlaces;
-use hd_bytes::{read_u32, write_bytes};
-use hd_dbd::compare_keys;
+use hd_bytes::read_u32;
+use hd_dbd::{compare_keys, is_number_below};
 
 /// What a walk along the twins of a block came to: the last that was passed over, the one behind it, 0 for none, and whether the key of this
 /// was found not to be below.
@@ -17,47 +17,6 @@ pub struct Walk {
     pub before: u32,
     pub twin: u32,
     pub is_found: bool,
-}
-
-/// The number that the first eight bytes make, the highest first.
-fn number_of_eight(bytes: &[u8]) -> u64
-    requires { 8 ≤ length bytes.now }
-    ensures { result ≡ from_be_bytes w64 (take 8 bytes.now) }
-{
-    u64::from_be_bytes([
-        bytes[0], bytes[1], bytes[2], bytes[3], bytes[4], bytes[5], bytes[6], bytes[7],
-    ])
-}
-
-/// The number that the eight bytes at a place make.
-fn number_at(block: &[u8], place: usize) -> u64
-    requires { place + 8 ≤ length block.now }
-    ensures { result ≡ from_be_bytes w64 (bytes_at block.now place 8) }
-{
-    number_of_eight(&block[place..])
-}
-
-/// The number of a key with zeros behind it; `None` where it has more than eight bytes, or is not as long as the twins' keys.
-pub fn number_of_key(places: TwinPlaces, key: &[u8]) -> Option<u64>
-    ensures { IfSome result (λ number. IsNumberOf places.length key.now number) }
-{
-    if key.len() != places.length || key.len() > 8 {
-        return None;
-    }
-    let mut eight = [0; 8];
-    write_bytes(&mut eight, 0, key);
-    Some(number_of_eight(&eight))
-}
-
-/// Whether the key at a place is below another, as numbers, since eight bytes stand there.
-fn is_number_below(block: &[u8], place: usize, count: usize, key: &[u8], number: u64) -> bool
-    requires within { place + 8 ≤ length block.now }
-    requires number { IsNumberOf count key.now number }
-    ensures { result ≡ is_lt (slice_cmp nat_cmp (bytes_at block.now place count) key.now) }
-{
-    let _ = count;
-    let _ = key;
-    number_at(block, place) < number
 }
 
 /// Whether the key at a place is below another.

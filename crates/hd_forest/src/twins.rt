@@ -3,17 +3,18 @@ ghost use Rattle.hd_bytes.specs.Blocks.{HasBlock};
 ghost use Rattle.hd_bytes.specs.Ranges.{bytes_at};
 ghost use Rattle.hd_bytes.specs.Numbers.{number_at};
 ghost use Rattle.hd_dbd.specs.Refusals.{OnlyDevice};
+ghost use Rattle.hd_dbd.specs.KeyNumbers.{IsNumberOf};
 ghost use Rattle.hd_volume.specs.Calls.{IsRead};
 ghost use Rattle.hd_links.specs.Links.{IsSegment};
 ghost use Rattle.hd_image.specs.Records.{links_of, IsVolumeOf};
 ghost use Rattle.hd_forest.specs.Walks.{HasForest};
 ghost use Rattle.hd_forest.specs.Twins.{IsTwinFrom, IsLastBelow, IsOfKey};
 ghost use Rattle.hd_forest.specs.TwinPlaces.{twin_places};
-ghost use Rattle.hd_forest.specs.BlockTwins.{IsNumberOf, IsWalkFrom, IsEqualFrom};
+ghost use Rattle.hd_forest.specs.BlockTwins.{IsWalkFrom, IsEqualFrom};
 
-use crate::block_twins::{Walk, is_equal, number_of_key, pass_in};
+use crate::block_twins::{Walk, is_equal, pass_in};
 use hd_bytes::read_u32;
-use hd_dbd::{Dbd, Refused};
+use hd_dbd::{Dbd, Refused, number_of_key};
 use hd_prefix::{Layout, Pointer};
 use hd_stores::BlockStore;
 use hd_volume::Volume;
@@ -112,7 +113,7 @@ pub fn twins_around<S: BlockStore>(
     ensures equal { IfOk result (λ r. IsTrue volume.old.is_sound → r.is_equal ≡ true → IsOfKey dbd.now.types (links_of dbd.now.types volume.old) key.now r.from) }
     ensures refusal { OnlyDevice result }
 {
-    let number = number_of_key(places, key);
+    let number = number_of_key(key, places.length);
     let most = volume.length();
     let mut before = 0;
     let mut twin = address;

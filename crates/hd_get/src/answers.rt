@@ -11,6 +11,7 @@ ghost use Rattle.hd_get.specs.Gets.{HasPosition, IsGot, levels_taken};
 ghost use Rattle.hd_get.specs.Behind.{SeeksBehind};
 ghost use Rattle.hd_get.specs.Found.{IsSought, IsMissed, goes_back, status_between};
 
+use crate::arguments::target_code;
 use crate::call::Get;
 use crate::found_row::taken;
 use crate::next_twin::seek_next_twin;
@@ -107,7 +108,7 @@ fn leave_behind<S: BlockStore>(
     Outcome::Found(status_between(call, last, position.last()))
 }
 
-/// Leaves a PCB on the row that a get has found. One access.
+/// Leaves a PCB on the row that a get has found, of the type of its last argument; without arguments the type is read, one access.
 fn found<S: BlockStore>(
     volume: &mut Volume<S>,
     dbd: &Dbd,
@@ -123,6 +124,10 @@ fn found<S: BlockStore>(
     ensures kept { IfErr result (λ _. position.new ≡ position.old) }
     ensures refusal { OnlyDevice result }
 {
+    if !call.ssas.is_empty() {
+        let code = target_code(call.ssas);
+        return Ok(leave_on(volume, dbd, call, position, path, code));
+    }
     let code = code_at(volume, dbd, tip_of(&path))?;
     Ok(leave_on(volume, dbd, call, position, path, code))
 }

@@ -1,5 +1,5 @@
 -- The entries in the bytes of an index block.
-use Rattle.std.proofs.Common.{◌≡◌, inl, inr, ℕ, zero, suc, ◌+◌, ◌*◌, ◌<◌, ◌≤◌, true, false, List, [], ◌∷◌, length, slice_index, Some, refl, sym, ap, subst, ◌∙◌, arith}
+use Rattle.std.proofs.Common.{◌≡◌, inl, inr, ℕ, zero, suc, ◌+◌, ◌-◌, ◌*◌, ◌<◌, ◌≤◌, true, false, List, [], ◌∷◌, length, slice_index, Some, refl, sym, ap, subst, ◌∙◌, arith}
 use Rattle.std.specs.Prelude.{slice_get}
 use Rattle.std.proofs.lemmas.Bool.{and_parts, cases_Bool, cases_lt}
 use Rattle.std.proofs.lemmas.Map.Lookups.{exact_bytes}
@@ -77,6 +77,11 @@ above-through k b key p n m j a here l low = elim (cases_lt m j) [
   | inl under ↦ not-below (bytes_at b (p + m * (k + 4)) k) (bytes_at b (p + j * (k + 4)) k) key (ascend-at k b p n m j a under low) here
   | inr over ↦ (let e : j ≡ m = omega arith in ap (λ (i : ℕ). key_less (bytes_at b (p + i * (k + 4)) k) key) e ∙ here)
 ]
+
+-- where the last of the first m is below a key, and the next is not, m are below it
+pub edge-at : (k : ℕ) (b key : List ℕ) (p n m : ℕ) → keys_ascend (entries_at k b p n) ≡ true → m ≤ n → (0 < m → key_less (bytes_at b (p + (m - 1) * (k + 4)) k) key ≡ true)
+    → (m < n → key_less (bytes_at b (p + m * (k + 4)) k) key ≡ false) → below_count key (entries_at k b p n) ≡ m
+edge-at k b key p n m a most low high = below-at k b key p n m most (λ j l. below-through k b key p n (m - 1) j a (omega arith) (low (omega arith)) (omega arith)) high
 
 -- before an entry of a key are the entries below it
 pub equal-at : (k : ℕ) (b key : List ℕ) (p n m : ℕ) → keys_ascend (entries_at k b p n) ≡ true → m < n → slice_cmp nat_cmp (bytes_at b (p + m * (k + 4)) k) key ≡ Equal → below_count key (entries_at k b p n) ≡ m

@@ -1,13 +1,14 @@
-ghost use Rattle.std.specs.Prelude.{◌≡◌, ◌+◌, ◌≤◌, ◌<◌, length, slice_index};
+ghost use Rattle.std.specs.Prelude.{◌≡◌, ◌+◌, ◌-◌, ◌≤◌, ◌<◌, true, false, length, slice_index};
 ghost use Rattle.hd_bytes.specs.Numbers.{number_at};
 ghost use Rattle.hd_bytes.specs.Ranges.{bytes_at};
 ghost use Rattle.hd_volume.specs.Entries.{entries_in};
-ghost use Rattle.hd_volume.specs.Indexes.{entry_room};
+ghost use Rattle.hd_dbd.specs.KeyNumbers.{IsNumberOf};
+ghost use Rattle.hd_volume.specs.Indexes.{entry_room, key_less};
 ghost use Rattle.hd_index_blocks.specs.Fields.{entry_place, entry_count, below_count};
 
 use crate::format::{COUNT, LEVEL, NEXT, entry_place, entry_room};
 use hd_bytes::{read_u16, read_u32};
-use hd_dbd::compare_keys;
+use hd_dbd::{compare_keys, is_number_below, number_of_key};
 use std::cmp::Ordering;
 
 /// An index block whose entries have keys of so many bytes: a view over its bytes, whatever they are.
@@ -92,8 +93,21 @@ impl<'b> IndexBlock<'b> {
     }
 
     /// How many of its first entries are below a key. The last two are looked at first: new keys often come behind all others, and the way to
-    /// them goes by the last.
+    /// them goes by the last. Keys of four to eight bytes are compared as numbers.
     pub fn place_of(&self, key: &[u8]) -> usize
+        ensures most { result ≤ entry_count self.now.key_length self.now.bytes.now }
+        ensures value { IfInOrder self.now.key_length self.now.bytes.now (result ≡ below_count key.now (entries_in self.now.key_length self.now.bytes.now)) }
+    {
+        if self.key_length >= 4 {
+            if let Some(number) = number_of_key(key, self.key_length) {
+                return self.place_of_number(key, number);
+            }
+        }
+        self.place_of_key(key)
+    }
+
+    /// The same, by the order of keys.
+    fn place_of_key(&self, key: &[u8]) -> usize
         ensures most { result ≤ entry_count self.now.key_length self.now.bytes.now }
         ensures value { IfInOrder self.now.key_length self.now.bytes.now (result ≡ below_count key.now (entries_in self.now.key_length self.now.bytes.now)) }
     {
@@ -109,6 +123,58 @@ impl<'b> IndexBlock<'b> {
             }
         }
         low
+    }
+
+    /// The same, of a key that has a number, where eight bytes stand at each entry. Nothing is called on the way, so that a step is short.
+    fn place_of_number(&self, key: &[u8], number: u64) -> usize
+        requires number { IsNumberOf self.now.key_length key.now number }
+        requires eight { 4 ≤ self.now.key_length }
+        ensures most { result ≤ entry_count self.now.key_length self.now.bytes.now }
+        ensures value { IfInOrder self.now.key_length self.now.bytes.now (result ≡ below_count key.now (entries_in self.now.key_length self.now.bytes.now)) }
+    {
+        let count = self.count();
+        if self.ends_below(count, key, number) {
+            return count;
+        }
+        if self.ends_below(count - 1, key, number) {
+            return count - 1;
+        }
+        let mut low = 0;
+        let mut high = count - 2;
+        while low < high {
+            let middle = (low + high) / 2;
+            if self.is_below(middle, key, number) {
+                low = middle + 1;
+            } else {
+                high = middle;
+            }
+        }
+        low
+    }
+
+    /// Whether the last of so many first entries is below a key that has a number; also where there are none.
+    fn ends_below(&self, index: usize, key: &[u8], number: u64) -> bool
+        requires index { index ≤ entry_count self.now.key_length self.now.bytes.now }
+        requires number { IsNumberOf self.now.key_length key.now number }
+        requires eight { 4 ≤ self.now.key_length }
+        ensures below { result ≡ true → 0 < index → key_less (bytes_at self.now.bytes.now (entry_place self.now.key_length (index - 1)) self.now.key_length) key.now ≡ true }
+        ensures some { result ≡ false → 0 < index }
+        ensures above { result ≡ false → key_less (bytes_at self.now.bytes.now (entry_place self.now.key_length (index - 1)) self.now.key_length) key.now ≡ false }
+    {
+        if index == 0 {
+            return true;
+        }
+        self.is_below(index - 1, key, number)
+    }
+
+    /// Whether the key of one of its entries is below another that has a number.
+    fn is_below(&self, index: usize, key: &[u8], number: u64) -> bool
+        requires index { index < entry_count self.now.key_length self.now.bytes.now }
+        requires number { IsNumberOf self.now.key_length key.now number }
+        requires eight { 4 ≤ self.now.key_length }
+        ensures { result ≡ key_less (bytes_at self.now.bytes.now (entry_place self.now.key_length index) self.now.key_length) key.now }
+    {
+        is_number_below(self.bytes, self.place(index), self.key_length, key, number)
     }
 
     /// Looks for a key.

@@ -3,7 +3,7 @@ use Rattle.hd_bytes.specs.Ranges.{bytes_at}
 use Rattle.hd_volume.specs.Entries.{entries_at}
 use Rattle.hd_volume.specs.Indexes.{key_less, keys_ascend}
 use Rattle.hd_index_blocks.specs.Fields.{entry_place}
-use Rattle.hd_index_blocks.proofs.block.IndexBlock.place_of.Given as goal
+use Rattle.hd_index_blocks.proofs.block.IndexBlock.place_of_number.Given as goal
 
 abbrev pub invariant-loop-low : goal.invariant-loop-low
 invariant-loop-low l = record {

@@ -7,7 +7,7 @@ use Rattle.hd_volume.specs.Entries.{entries_at}
 use Rattle.hd_volume.specs.Indexes.{key_less, keys_ascend}
 use Rattle.hd_index_blocks.specs.Fields.{entry_place, below_count}
 use Rattle.hd_index_blocks.proofs.BlockLemmas.{below-at, below-through, above-through, equal-at}
-use Rattle.hd_index_blocks.proofs.block.IndexBlock.place_of.Goals as goal
+use Rattle.hd_index_blocks.proofs.block.IndexBlock.place_of_key.Goals as goal
 
 pub loop-low-preserved-in-Less : goal.loop-low-preserved-in-Less
 loop-low-preserved-in-Less c =

@@ -1,5 +1,5 @@
 -- Keys in the order of the numbers that they make with zeros behind them.
-use Rattle.std.proofs.Common.{◌≡◌, ℕ, zero, suc, ◌+◌, ◌<◌, ◌≤◌, List, [], ◌∷◌, ◌++◌, length, take, drop, replicate, get_or, false, refl, sym, ap, ◌∙◌, arith, ltb, w64}
+use Rattle.std.proofs.Common.{◌≡◌, ℕ, zero, suc, ◌+◌, ◌-◌, ◌*◌, ◌^◌, ◌%◌, ◌<◌, ◌≤◌, List, [], ◌∷◌, ◌++◌, length, take, drop, replicate, get_or, false, refl, sym, ap, ◌∙◌, arith, ltb, w32, w64}
 use Rattle.std.specs.Int.{from_be_bytes}
 use Rattle.std.specs.Ordering.{MatchOrdering, nat_cmp, is_lt, ordering_then}
 use Rattle.std.specs.Cmp.{ranks}
@@ -10,13 +10,28 @@ use Rattle.std.proofs.lemmas.Bool.{lt-ltb, le-ltb}
 use Rattle.std.proofs.lemmas.Grind.{common_steps}
 use Rattle.std.proofs.lemmas.List.{length-take-le, length-append, take_all, take-take, get_or-drop}
 use Rattle.hd_dbd.proofs.KeyOrder.{eight-order}
-use Rattle.hd_forest.specs.BlockTwins.{with_zeros, IsNumberOf}
+use Rattle.hd_dbd.specs.KeyNumbers.{with_zeros, IsNumberOf}
 
 -- where the first bytes are the same, the rest decides
 rest-decides : (o a b : Ordering) → is_lt a ≡ is_lt b → is_lt (ordering_then o a) ≡ is_lt (ordering_then o b)
 rest-decides Less a b e = refl
 rest-decides Equal a b e = e
 rest-decides Greater a b e = refl
+
+-- the number of four to eight bytes with zeros behind them, by the first four and the last four
+pub ends-number : (key : List ℕ) → 4 ≤ length key → length key ≤ 8 → ((i : ℕ) → get_or key i 0 < 256)
+    → (from_be_bytes w32 (take 4 key) * 2 ^ 32) % 2 ^ 64 + (from_be_bytes w32 (take 4 (take (length key - (length key - 4)) (drop (length key - 4) key))) * 2 ^ (8 * (8 - length key))) % 2 ^ 64 % 2 ^ 32
+    ≡ from_be_bytes w64 (take 8 (with_zeros key))
+ends-number [] four eight small = absurd (omega arith)
+ends-number (a ∷ []) four eight small = absurd (omega arith)
+ends-number (a ∷ b ∷ []) four eight small = absurd (omega arith)
+ends-number (a ∷ b ∷ c ∷ []) four eight small = absurd (omega arith)
+ends-number (a ∷ b ∷ c ∷ d ∷ []) four eight small = (let p = small 0 in let q = small 1 in let r = small 2 in let s = small 3 in omega arith)
+ends-number (a ∷ b ∷ c ∷ d ∷ e ∷ []) four eight small = (let p = small 0 in let q = small 1 in let r = small 2 in let s = small 3 in let t = small 4 in omega arith)
+ends-number (a ∷ b ∷ c ∷ d ∷ e ∷ f ∷ []) four eight small = (let p = small 0 in let q = small 1 in let r = small 2 in let s = small 3 in let t = small 4 in let u = small 5 in omega arith)
+ends-number (a ∷ b ∷ c ∷ d ∷ e ∷ f ∷ g ∷ []) four eight small = (let p = small 0 in let q = small 1 in let r = small 2 in let s = small 3 in let t = small 4 in let u = small 5 in let v = small 6 in omega arith)
+ends-number (a ∷ b ∷ c ∷ d ∷ e ∷ f ∷ g ∷ h ∷ []) four eight small = (let p = small 0 in let q = small 1 in let r = small 2 in let s = small 3 in let t = small 4 in let u = small 5 in let v = small 6 in let w = small 7 in omega arith)
+ends-number (a ∷ b ∷ c ∷ d ∷ e ∷ f ∷ g ∷ h ∷ x ∷ key) four eight small = absurd (omega arith)
 
 -- nothing is below zeros
 zeros-least : (xs zs : List ℕ) → length xs ≡ length zs → ((i : ℕ) → get_or zs i 0 ≡ 0) → is_lt (slice_cmp nat_cmp xs zs) ≡ false
