@@ -1,4 +1,4 @@
-ghost use Rattle.std.specs.Prelude.{◌≡◌, ◌+◌, ◌≤◌, IsTrue, length, take, IfOk, OnOk};
+ghost use Rattle.std.specs.Prelude.{◌≡◌, ◌+◌, ◌≤◌, IsTrue, length, take, OnOk};
 ghost use Rattle.hd_bytes.specs.Numbers.{number_at};
 ghost use Rattle.hd_bytes.specs.Blocks.{HasBlock};
 ghost use Rattle.hd_bytes.specs.Ranges.{bytes_at, with_bytes};
@@ -35,26 +35,26 @@ pub fn four_bytes(number: u32) -> [u8; 4]
     bytes
 }
 
-/// The bytes of a block from a place on, so many of them at the front.
+/// Copies so many bytes of a block from a place on to the front of a chunk.
 fn read_chunk<S: BlockStore>(
     volume: &mut Volume<S>,
     n: u32,
     from: usize,
     len: usize,
-) -> Result<[u8; 1024], Refused>
+    chunk: &mut [u8; 1024],
+) -> Result<(), Refused>
     requires there { IsTrue volume.old.is_sound → HasBlock volume.old.size volume.old.image n }
     requires within { from + len ≤ volume.old.size }
     requires short { len ≤ 1024 }
     ensures read { IsRead volume.old result volume.new }
-    ensures value { IfOk result (λ chunk. IsTrue volume.old.is_sound → take len chunk ≡ bytes_at (block_at volume.old n) from len) }
+    ensures value { OnOk result (IsTrue volume.old.is_sound → take len chunk.new ≡ bytes_at (block_at volume.old n) from len) }
     ensures refusal { OnlyDevice result }
 {
     let block = volume.block(n)?;
-    let mut chunk = [0; CHUNK];
     if from <= block.len() && len <= block.len() - from {
         chunk[..len].copy_from_slice(&block[from..from + len]);
     }
-    Ok(chunk)
+    Ok(())
 }
 
 /// Writes bytes into an index block, behind its kind and level.
@@ -98,7 +98,8 @@ fn copy_chunk<S: BlockStore>(
     ensures refusal { OnlyDevice result }
     ensures room { volume.new.room ≡ volume.old.room }
 {
-    let chunk = read_chunk(volume, source, from, len)?;
+    let mut chunk = [0; CHUNK];
+    read_chunk(volume, source, from, len, &mut chunk)?;
     write_part(volume, target, to, &chunk[..len])?;
     Ok(())
 }

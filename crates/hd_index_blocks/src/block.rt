@@ -107,6 +107,7 @@ impl<'b> IndexBlock<'b> {
     }
 
     /// The same, by the order of keys.
+    #[inline(never)] // What this one keeps over its calls is not put aside where keys have numbers.
     fn place_of_key(&self, key: &[u8]) -> usize
         ensures most { result ≤ entry_count self.now.key_length self.now.bytes.now }
         ensures value { IfInOrder self.now.key_length self.now.bytes.now (result ≡ below_count key.now (entries_in self.now.key_length self.now.bytes.now)) }

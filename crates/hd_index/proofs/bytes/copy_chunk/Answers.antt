@@ -10,11 +10,11 @@ pub returns-clause-copied : goal.returns-clause-copied
 returns-clause-copied g c sound =
     let u = c.args.volume.now in
     let v = c.read_chunk.new.volume in
-    let now : IsTrue v.is_sound = rw c.in_ok-chunk.ensures.read.call.sound sound in
-    let h : HasNewBytes v c.args.target (with_bytes (block_at v c.args.target) c.args.to (take c.args.len c.in_ok-chunk.chunk)) c.write_part.new.volume = c.in_ok-write_part.ensures.written now in
-    let one = read-one c.in_ok-chunk.ensures.read now in
-    let part : take c.args.len c.in_ok-chunk.chunk ≡ bytes_at (block_at u c.args.source) c.args.from c.args.len = c.in_ok-chunk.ensures.value sound in
+    let now : IsTrue v.is_sound = rw c.in_ok-read_chunk.ensures.read.call.sound sound in
+    let h : HasNewBytes v c.args.target (with_bytes (block_at v c.args.target) c.args.to (take c.args.len c.read_chunk.new.chunk)) c.write_part.new.volume = c.in_ok-write_part.ensures.written now in
+    let one = read-one c.in_ok-read_chunk.ensures.read now in
+    let part : take c.args.len c.read_chunk.new.chunk ≡ bytes_at (block_at u c.args.source) c.args.from c.args.len = c.in_ok-read_chunk.ensures.value sound in
     record {
       edit = edit-before c.args.target one h.edit;
-      value = h.value ∙ ap (λ (x : List ℕ). with_bytes x c.args.to (take c.args.len c.in_ok-chunk.chunk)) (one-block-at one c.args.target) ∙ ap (with_bytes (block_at u c.args.target) c.args.to) part;
+      value = h.value ∙ ap (λ (x : List ℕ). with_bytes x c.args.to (take c.args.len c.read_chunk.new.chunk)) (one-block-at one c.args.target) ∙ ap (with_bytes (block_at u c.args.target) c.args.to) part;
     }
