@@ -18,6 +18,7 @@ pub mod TwiceNamed
 pub mod Walks
 pub mod UnnamedRoots
 pub mod EntrySteps
+pub mod DataBlocks
 pub mod NamedEntries
 pub mod Sequences
 pub mod OrderSteps

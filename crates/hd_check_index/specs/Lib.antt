@@ -10,6 +10,7 @@ pub mod NamedBlocks
 pub mod Standings
 pub mod Counted
 pub mod IndexPhases
+pub mod DataBlocks
 pub mod LeftKeys
 pub mod Listed
 pub mod SetPhases

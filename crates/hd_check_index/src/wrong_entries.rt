@@ -1,39 +1,49 @@
 //! Phase 12: each entry names a root of its key.
-ghost use Rattle.std.specs.Prelude.{◌≡◌, ◌<◌, [], ◌++◌, ◌==◌, ◌&&◌, not, Some, map, bytes_eq, true, IsTrue, IfOk};
+ghost use Rattle.std.specs.Prelude.{◌≡◌, ℕ, ◌+◌, ◌<◌, ◌≤◌, ◌/◌, min, List, [], ◌++◌, ◌==◌, ◌&&◌, not, Some, map, length, bytes_eq, true, false, IsTrue, IfOk, IfSome};
 ghost use Rattle.std.specs.List.{list_all};
 ghost use Rattle.hd_bytes.specs.Blocks.{HasBlock};
-ghost use Rattle.hd_dbd.specs.Refusals.{OnlyDevice, OnlyDeviceOrMemory};
+ghost use Rattle.hd_dbd.specs.Facts.{stored_sizes};
+ghost use Rattle.hd_dbd.specs.Refusals.{OnlyMemory, OnlyDevice, OnlyDeviceOrMemory};
 ghost use Rattle.hd_dbd.specs.Hierarchy.{Database};
 ghost use Rattle.hd_dbd.specs.Rows.{key_of};
 ghost use Rattle.hd_volume.specs.Volumes.{VolumeState, block_at};
 ghost use Rattle.hd_volume.specs.Entries.{entries_in};
+ghost use Rattle.hd_block.specs.Sizes.{size_at};
+ghost use Rattle.hd_volume.specs.Records.{find};
+ghost use Rattle.hd_index_blocks.specs.Fields.{entry_count, entry_in};
 ghost use Rattle.hd_index_blocks.specs.IndexSets.{index_entries};
 ghost use Rattle.hd_volume.specs.Indexes.{root_key_length, IsEntryBlock};
-ghost use Rattle.hd_volume.specs.Calls.{IsRead};
+ghost use Rattle.hd_volume.specs.Calls.{IsRead, HasSegment};
 ghost use Rattle.hd_prefix.specs.Fields.{bytes_of, IsWhole};
 ghost use Rattle.hd_image.specs.IndexFaults.{names_a_root};
 ghost use Rattle.hd_image.specs.Records.{links_of, IsVolumeOf};
 ghost use Rattle.hd_check_blocks.specs.Phases.{IsLeastOf};
 ghost use Rattle.hd_check_blocks.specs.Listing.{AreStanding};
-ghost use Rattle.hd_check_blocks.specs.Places.{ArePlaces};
+ghost use Rattle.hd_check_blocks.specs.Places.{IsPlaceOf, ArePlaces};
+ghost use Rattle.hd_check_blocks.specs.Keys.{key_place};
+ghost use Rattle.hd_check_index.specs.DataBlocks.{OfBlockOf, OfDataBlock, FirstNameRoots, AreFirstNoted};
 ghost use Rattle.hd_check_index.specs.IndexPhases.{OfCounted, IsSequence, AreNamed, AllNameRoots, first_wrong_in, first_wrong_entry};
 ghost use Rattle.hd_check_blocks.specs.Finding.{WhereNone, WhereSome};
 
 use crate::listed::fault_naming;
 use crate::noted_blocks::block_address;
-use hd_check_blocks::{Directory, Fault, Place, list_fault, number_near, stored_key};
-use hd_dbd::{Dbd, Refused, compare_keys};
+use hd_block::size_at;
+use hd_check_blocks::{
+    Directory, Fault, KeyPlace, Place, key_at, key_place, list_fault, number_near,
+};
+use hd_dbd::{Dbd, Refused, SegmentSize, compare_keys};
 use hd_image::Line;
 use hd_index_blocks::{FIRST, IndexBlock, root_key_length};
 use hd_stores::BlockStore;
-use hd_volume::Volume;
+use hd_volume::{Volume, size_table};
 use std::alloc::Global;
 
-/// Whether a stored root has a key.
-fn has_key(dbd: &Dbd, segment: &[u8], key: &[u8]) -> bool
+/// Whether a stored root has a key, by where roots have theirs.
+fn has_key(own: Option<KeyPlace>, dbd: &Dbd, segment: &[u8], key: &[u8]) -> bool
+    requires { own ≡ key_place dbd.now.types 1 }
     ensures { IsWhole dbd.now.types 1 segment.now → result ≡ bytes_eq (key_of dbd.now.types (record { code = 1; bytes = bytes_of dbd.now.types 1 segment.now })) key.now }
 {
-    compare_keys(stored_key(dbd, 1, segment), key).is_eq()
+    compare_keys(key_at(own, dbd, 1, segment), key).is_eq()
 }
 
 /// Whether an address is that of a root, which is looked for at a number first; that of the place behind it is kept then.
@@ -50,8 +60,9 @@ fn is_root(places: &[Place], directory: &Directory, address: u32, near: &mut usi
     }
 }
 
-/// Whether an entry of a key and an address names a root of its key.
+/// Whether an entry of a key and an address names a root of its key, by where roots have theirs.
 fn names_root<S: BlockStore>(
+    own: Option<KeyPlace>,
     places: &[Place],
     directory: &Directory,
     near: &mut usize,
@@ -60,6 +71,7 @@ fn names_root<S: BlockStore>(
     key: &[u8],
     address: u32,
 ) -> Result<bool, Refused>
+    requires own { own ≡ key_place dbd.now.types 1 }
     requires of { IsTrue volume.old.is_sound → IsVolumeOf dbd.now volume.old }
     requires places { IsTrue volume.old.is_sound → ArePlaces dbd.now.types volume.old places.now }
     ensures read { IsRead volume.old result volume.new }
@@ -70,7 +82,218 @@ fn names_root<S: BlockStore>(
         return Ok(false);
     }
     let segment = volume.segment_at(address)?;
-    Ok(has_key(dbd, segment, key))
+    Ok(has_key(own, dbd, segment, key))
+}
+
+/// Where the segment at a place of a block ends, at most at the end of the block.
+fn segment_end(block: &[u8], sizes: &[SegmentSize], at: usize) -> usize
+    requires { (at < length block.now) × (length block.now ≤ 32768) }
+    ensures { result ≡ min (at + size_at sizes.now block.now at) (length block.now) }
+{
+    let len = size_at(block, sizes, at);
+    at.saturating_add(len).min(block.len())
+}
+
+/// The segment at an address in a data block that begins at another; `None` where the address is not in the block.
+fn segment_in<'b>(
+    bytes: &'b [u8],
+    sizes: &[SegmentSize],
+    first: u32,
+    address: u32,
+) -> Option<&'b [u8]>
+    requires short { length bytes.now ≤ 32768 }
+    ensures { IfSome result (λ s. OfBlockOf sizes.now bytes.now first (λ v. HasSegment v address 0 → find v address ≡ Some s.now)) }
+{
+    if address < first {
+        return None;
+    }
+    let at = (address - first) as usize;
+    if at >= bytes.len() {
+        return None;
+    }
+    let end = segment_end(bytes, sizes, at);
+    Some(&bytes[at..end])
+}
+
+/// Whether a root stands at an address, which is that of the place of a number.
+fn is_root_at(places: &[Place], number: usize, address: u32) -> bool
+    ensures { result ≡ true → IsPlaceOf (record { address = address; code = 1 }) places.now }
+{
+    if number >= places.len() {
+        return false;
+    }
+    let place = places[number];
+    if place.address != address {
+        return false;
+    }
+    place.code == 1
+}
+
+/// Whether an entry of a key and an address names a root of its key, which is at the place of a number, and in a data block that begins at another
+/// address.
+fn names_root_in(
+    own: Option<KeyPlace>,
+    places: &[Place],
+    number: usize,
+    bytes: &[u8],
+    sizes: &[SegmentSize],
+    first: u32,
+    dbd: &Dbd,
+    key: &[u8],
+    address: u32,
+) -> bool
+    requires own { own ≡ key_place dbd.now.types 1 }
+    requires sizes { sizes.now ≡ stored_sizes dbd.now.types }
+    requires short { length bytes.now ≤ 32768 }
+    ensures { result ≡ true → OfDataBlock dbd.now places.now bytes.now first (λ v. names_a_root dbd.now (links_of dbd.now.types v) (record { key = key.now; address = address }) ≡ true) }
+{
+    if !is_root_at(places, number, address) {
+        return false;
+    }
+    match segment_in(bytes, sizes, first, address) {
+        Some(segment) => has_key(own, dbd, segment, key),
+        None => false,
+    }
+}
+
+/// Notes what the entries of an index block name from an index on, as long as each names a root of its key, which is at the next place from a number
+/// on, and in one data block; the index behind them.
+fn name_on(
+    named: &mut Vec<u32>,
+    own: Option<KeyPlace>,
+    places: &[Place],
+    near: usize,
+    bytes: &[u8],
+    sizes: &[SegmentSize],
+    first: u32,
+    dbd: &Dbd,
+    block: &IndexBlock,
+    index: usize,
+) -> Result<usize, Refused>
+    requires own { own ≡ key_place dbd.now.types 1 }
+    requires sizes { sizes.now ≡ stored_sizes dbd.now.types }
+    requires short { length bytes.now ≤ 32768 }
+    requires low { index ≤ entry_count block.now.key_length block.now.bytes.now }
+    ensures low { IfOk result (λ i. (index ≤ i) × (i ≤ entry_count block.now.key_length block.now.bytes.now)) }
+    ensures right { IfOk result (λ i. OfDataBlock dbd.now places.now bytes.now first (λ v. FirstNameRoots dbd.now v block.now.key_length block.now.bytes.now index → FirstNameRoots dbd.now v block.now.key_length block.now.bytes.now i)) }
+    ensures named { IfOk result (λ i. (before : List ℕ) → AreFirstNoted before block.now.key_length block.now.bytes.now index named.old.items → AreFirstNoted before block.now.key_length block.now.bytes.now i named.new.items) }
+    ensures refusal { OnlyMemory result }
+{
+    let count = block.count();
+    let mut number = near;
+    for next in index..count {
+        let key = block.key(next);
+        let address = block.address(next);
+        if !names_root_in(own, places, number, bytes, sizes, first, dbd, key, address) {
+            return Ok(next);
+        }
+        if named.push(address).is_err() {
+            return Err(Refused::Memory);
+        }
+        number = number.saturating_add(1);
+    }
+    Ok(count)
+}
+
+/// Whether the entry of an index block at an index, if there is one, names a root which is at the place of a number, and in the block of an address.
+fn is_beside(
+    places: &[Place],
+    number: usize,
+    block: &IndexBlock,
+    index: usize,
+    address: u32,
+    size: u32,
+) -> bool
+    requires some { 0 < size }
+{
+    if index >= block.count() {
+        return false;
+    }
+    let next = block.address(index);
+    is_root_at(places, number, next) && next / size == address / size
+}
+
+/// The same over the data block of an address, which is brought to hand.
+fn name_beside<S: BlockStore>(
+    named: &mut Vec<u32>,
+    own: Option<KeyPlace>,
+    places: &[Place],
+    near: usize,
+    volume: &mut Volume<S>,
+    sizes: &[SegmentSize],
+    address: u32,
+    dbd: &Dbd,
+    block: &IndexBlock,
+    index: usize,
+) -> Result<usize, Refused>
+    requires own { own ≡ key_place dbd.now.types 1 }
+    requires sizes { sizes.now ≡ stored_sizes dbd.now.types }
+    requires low { index ≤ entry_count block.now.key_length block.now.bytes.now }
+    requires of { IsTrue volume.old.is_sound → IsVolumeOf dbd.now volume.old }
+    requires places { IsTrue volume.old.is_sound → ArePlaces dbd.now.types volume.old places.now }
+    requires there { IsTrue volume.old.is_sound → HasBlock volume.old.size volume.old.image (address / volume.old.size) }
+    ensures read { IsRead volume.old result volume.new }
+    ensures low { IfOk result (λ i. (index ≤ i) × (i ≤ entry_count block.now.key_length block.now.bytes.now)) }
+    ensures right { IfOk result (λ i. IsTrue volume.old.is_sound → FirstNameRoots dbd.now volume.old block.now.key_length block.now.bytes.now index → FirstNameRoots dbd.now volume.old block.now.key_length block.now.bytes.now i) }
+    ensures named { IfOk result (λ i. (before : List ℕ) → AreFirstNoted before block.now.key_length block.now.bytes.now index named.old.items → AreFirstNoted before block.now.key_length block.now.bytes.now i named.new.items) }
+    ensures refusal { OnlyDeviceOrMemory result }
+{
+    let size = volume.block_size() as u32;
+    let n = address / size;
+    let bytes = volume.block(n)?;
+    if bytes.len() > 32768 {
+        return Ok(index);
+    }
+    let first = n * size;
+    name_on(
+        named, own, places, near, bytes, sizes, first, dbd, block, index,
+    )
+}
+
+/// Judges the entry of an index block at an index, and those behind it whose roots stand beside its root; what they name is noted. The index behind them, or
+/// `None` where the first names no root of its key.
+fn judge_from<S: BlockStore>(
+    named: &mut Vec<u32>,
+    own: Option<KeyPlace>,
+    places: &[Place],
+    directory: &Directory,
+    near: &mut usize,
+    volume: &mut Volume<S>,
+    sizes: &[SegmentSize],
+    dbd: &Dbd,
+    block: &IndexBlock,
+    index: usize,
+) -> Result<Option<usize>, Refused>
+    requires own { own ≡ key_place dbd.now.types 1 }
+    requires sizes { sizes.now ≡ stored_sizes dbd.now.types }
+    requires low { index < entry_count block.now.key_length block.now.bytes.now }
+    requires of { IsTrue volume.old.is_sound → IsVolumeOf dbd.now volume.old }
+    requires places { IsTrue volume.old.is_sound → ArePlaces dbd.now.types volume.old places.now }
+    ensures read { IsRead volume.old result volume.new }
+    ensures low { IfOk result (λ o. IfSome o (λ i. (index < i) × (i ≤ entry_count block.now.key_length block.now.bytes.now))) }
+    ensures wrong { WhereNone volume.old result (names_a_root dbd.now (links_of dbd.now.types volume.old) (entry_in block.now.key_length block.now.bytes.now index) ≡ false) }
+    ensures right { WhereSome volume.old result (λ i. FirstNameRoots dbd.now volume.old block.now.key_length block.now.bytes.now index → FirstNameRoots dbd.now volume.old block.now.key_length block.now.bytes.now i) }
+    ensures named { IfOk result (λ o. IfSome o (λ i. (before : List ℕ) → AreFirstNoted before block.now.key_length block.now.bytes.now index named.old.items → AreFirstNoted before block.now.key_length block.now.bytes.now i named.new.items)) }
+    ensures refusal { OnlyDeviceOrMemory result }
+{
+    let key = block.key(index);
+    let address = block.address(index);
+    if !names_root(own, places, directory, near, volume, dbd, key, address)? {
+        return Ok(None);
+    }
+    if named.push(address).is_err() {
+        return Err(Refused::Memory);
+    }
+    let behind = index + 1;
+    let size = volume.block_size() as u32;
+    if !is_beside(places, *near, block, behind, address, size) {
+        return Ok(Some(behind));
+    }
+    let end = name_beside(
+        named, own, places, *near, volume, sizes, address, dbd, block, behind,
+    )?;
+    *near = near.saturating_add(end - behind);
+    Ok(Some(end))
 }
 
 /// The address in the first entry of a copied block that names no root of its key; where there is none, the addresses of all are noted.
@@ -80,26 +303,29 @@ fn wrong_among<S: BlockStore>(
     directory: &Directory,
     near: &mut usize,
     volume: &mut Volume<S>,
+    sizes: &[SegmentSize],
     dbd: &Dbd,
     block: &IndexBlock,
 ) -> Result<Option<u32>, Refused>
     requires of { IsTrue volume.old.is_sound → IsVolumeOf dbd.now volume.old }
     requires places { IsTrue volume.old.is_sound → ArePlaces dbd.now.types volume.old places.now }
+    requires sizes { sizes.now ≡ stored_sizes dbd.now.types }
     ensures read { IsRead volume.old result volume.new }
     ensures none { WhereNone volume.old result (OfCounted block.now.key_length block.now.bytes.now (λ es. list_all (λ e. names_a_root dbd.now (links_of dbd.now.types volume.old) e) es ≡ true)) }
     ensures named { WhereNone volume.old result (OfCounted block.now.key_length block.now.bytes.now (λ es. named.new.items ≡ named.old.items ++ map (λ e. e.address) es)) }
     ensures some { WhereSome volume.old result (λ a. OfCounted block.now.key_length block.now.bytes.now (λ es. first_wrong_entry dbd.now volume.old es ≡ Some a)) }
     ensures refusal { OnlyDeviceOrMemory result }
 {
-    for index in 0..block.count() {
-        let key = block.key(index);
-        let address = block.address(index);
-        let right = names_root(places, directory, near, volume, dbd, key, address)?;
-        if !right {
-            return Ok(Some(address));
-        }
-        if named.push(address).is_err() {
-            return Err(Refused::Memory);
+    let own = key_place(dbd, 1);
+    let count = block.count();
+    let mut index: usize = 0;
+    while index < count {
+        let judged = judge_from(
+            named, own, places, directory, near, volume, sizes, dbd, block, index,
+        )?;
+        match judged {
+            Some(behind) => index = behind,
+            None => return Ok(Some(block.address(index))),
         }
     }
     Ok(None)
@@ -114,9 +340,11 @@ fn wrong_entry<S: BlockStore>(
     directory: &Directory,
     near: &mut usize,
     volume: &mut Volume<S>,
+    sizes: &[SegmentSize],
     dbd: &Dbd,
     n: u32,
 ) -> Result<Option<u32>, Refused>
+    requires sizes { sizes.now ≡ stored_sizes dbd.now.types }
     requires of { IsTrue volume.old.is_sound → IsVolumeOf dbd.now volume.old }
     requires places { IsTrue volume.old.is_sound → ArePlaces dbd.now.types volume.old places.now }
     requires block { IsTrue volume.old.is_sound → IsEntryBlock (root_key_length dbd.now.types) volume.old n }
@@ -136,7 +364,7 @@ fn wrong_entry<S: BlockStore>(
         bytes: &bytes,
         key_length,
     };
-    wrong_among(named, places, directory, near, volume, dbd, &block)
+    wrong_among(named, places, directory, near, volume, sizes, dbd, &block)
 }
 
 /// The bytes of a block, copied.
@@ -171,11 +399,14 @@ pub fn wrong_entry_fault<S: BlockStore>(
     ensures some { WhereSome volume.old result (λ f. IsLeastOf dbd.now volume.old 12 f) }
     ensures refusal { OnlyDeviceOrMemory result }
 {
+    let Ok(sizes) = size_table(alloc, dbd) else {
+        return Err(Refused::Memory);
+    };
     let size = volume.block_size() as u32;
     let mut near = 0;
     for block in blocks {
         match wrong_entry(
-            alloc, named, places, directory, &mut near, volume, dbd, *block,
+            alloc, named, places, directory, &mut near, volume, &sizes, dbd, *block,
         )? {
             None => {}
             Some(address) => {
@@ -202,13 +433,16 @@ pub fn wrong_entry_faults<S: BlockStore>(
     ensures faults { IfOk result (λ faults. IsTrue volume.old.is_sound → AreStanding dbd.now volume.old 12 faults.items) }
     ensures refusal { OnlyDeviceOrMemory result }
 {
+    let Ok(sizes) = size_table(alloc, dbd) else {
+        return Err(Refused::Memory);
+    };
     let size = volume.block_size() as u32;
     let mut near = 0;
     let mut named = Vec::new(alloc);
     let mut faults = Vec::new(alloc);
     for block in blocks {
         let found = wrong_entry(
-            alloc, &mut named, places, directory, &mut near, volume, dbd, *block,
+            alloc, &mut named, places, directory, &mut near, volume, &sizes, dbd, *block,
         )?;
         list_fault(
             &mut faults,

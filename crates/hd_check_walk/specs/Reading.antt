@@ -1,5 +1,5 @@
 -- What is read of a segment.
-use Rattle.std.specs.Prelude.{◌≡◌, ℕ, List, ◌++◌, take, replicate, true}
+use Rattle.std.specs.Prelude.{◌≡◌, ◌≤◌, ◌<◌, ℕ, List, ◌++◌, take, replicate, slice_index, true}
 use Rattle.hd_dbd.specs.Types.{SegmentType}
 use Rattle.hd_dbd.specs.Hierarchy.{Database}
 use Rattle.hd_dbd.specs.Rows.{key_of}
@@ -8,6 +8,10 @@ use Rattle.hd_links.specs.Links.{Links, segment_at, is_child_type}
 use Rattle.hd_image.specs.Records.{links_of, IsVolumeOf}
 use Rattle.hd_check_blocks.specs.Lending.{IsLent}
 use Rattle.hd_check_walk.specs.declared.segments.Seen.{Seen}
+
+-- all bytes from one place to before another are 0
+abbrev pub AreZero : List ℕ → ℕ → ℕ → Type 0
+AreZero bytes start end = (i : ℕ) → start ≤ i → i < end → slice_index bytes i ≡ 0
 
 -- the segment names no children
 abbrev pub IsChildless : List SegmentType → Links → ℕ → Type 0

@@ -1,14 +1,18 @@
 //! What a walk asks of one segment.
-ghost use Rattle.std.specs.Prelude.{◌≡◌, ◌≤◌, ℕ, length, true, IfSome};
+ghost use Rattle.std.specs.Prelude.{◌≡◌, ◌≤◌, ◌⊎◌, ℕ, List, length, true, IfSome};
+ghost use Rattle.hd_dbd.specs.Types.{SegmentType};
 ghost use Rattle.hd_dbd.specs.Prefixes.{prefix_length};
 ghost use Rattle.hd_dbd.specs.Rows.{key_of};
+ghost use Rattle.hd_prefix.specs.declared.pointer.Pointer.TheVariants.{TwinBackward};
+ghost use Rattle.hd_prefix.specs.Fields.{pointer_of, twins_end};
 ghost use Rattle.hd_links.specs.Links.{segment_at};
-ghost use Rattle.hd_check_walk.specs.Reading.{IsChildless, OfRead, key_front};
+ghost use Rattle.hd_check_walk.specs.Reading.{AreZero, IsChildless, OfRead, key_front};
 ghost use Rattle.hd_check_walk.specs.Forms.{IsFormOf};
 
+use hd_bytes::read_u32;
 use hd_check_blocks::{KeyPlace, key_at, key_place};
 use hd_dbd::Dbd;
-use hd_prefix::{Layout, Pointer, delete_byte_of};
+use hd_prefix::{delete_byte_of, twin_forward_of};
 
 /// How many bytes of a key are seen.
 pub const FRONT: usize = 8;
@@ -41,23 +45,69 @@ fn key_front(key: &[u8]) -> [u8; FRONT]
     front
 }
 
-/// Where the segments of a type have what a walk asks of them, and whether the type has no child types.
+/// Where the segments of a type have what a walk asks of them, how long their prefix is and where the twin pointers in it end, and whether the type has no
+/// child types.
 #[derive(Clone, Copy)]
-pub struct Form<'a> {
-    layout: Layout<'a>,
+pub struct Form {
     key: Option<KeyPlace>,
+    prefix: usize,
+    twins_end: usize,
     is_leaf: bool,
 }
 
+/// Where the twin pointers of the segments of the type of a code end.
+fn twins_end(dbd: &Dbd, code: u8) -> usize
+    ensures { result ≡ twins_end dbd.now.types code }
+{
+    if dbd.keeps_backward(code) { 10 } else { 6 }
+}
+
 /// Where the segments of the type of a code have what a walk asks of them.
-pub fn form_of<'a>(dbd: &'a Dbd, code: u8) -> Form<'a>
+pub fn form_of(dbd: &Dbd, code: u8) -> Form
     ensures { IsFormOf dbd.now.types code result }
 {
     Form {
-        layout: Layout::of(dbd, code),
         key: key_place(dbd, code),
+        prefix: dbd.prefix_length(code) as usize,
+        twins_end: twins_end(dbd, code),
         is_leaf: dbd.children_of(code).is_empty(),
     }
+}
+
+/// Whether the bytes of a segment from one place to before another are all 0, four and four.
+fn are_zero(segment: &[u8], start: usize, end: usize) -> bool
+    requires { end ≤ length segment.now }
+    ensures { result ≡ true → AreZero segment.now start end }
+{
+    let length = end.saturating_sub(start);
+    if length % 4 != 0 {
+        return false;
+    }
+    for index in 0..length / 4 {
+        if read_u32(segment, start + 4 * index) != 0 {
+            return false;
+        }
+    }
+    true
+}
+
+/// Whether a segment names no children.
+fn names_no_children(form: &Form, segment: &[u8]) -> bool
+    requires { form.now.prefix ≤ length segment.now }
+    ensures { result ≡ true → (form.now.is_leaf ≡ true) ⊎ AreZero segment.now form.now.twins_end form.now.prefix }
+{
+    form.is_leaf || are_zero(segment, form.twins_end, form.prefix)
+}
+
+/// The address in the twin backward of a segment, 0 where it is not kept.
+fn backward_in(form: &Form, segment: &[u8]) -> u32
+    requires { form.now.twins_end ≤ length segment.now }
+    ensures { (types : List SegmentType) (code : ℕ) → form.now.twins_end ≡ twins_end types code → result ≡ pointer_of types code TwinBackward segment.now }
+{
+    if form.twins_end < 10 {
+        return 0;
+    }
+    read_u32(segment, 6)
 }
 
 /// What is seen of a segment by its bytes; `None` where it is not right by itself: it is shorter than its prefix, or its delete byte is not 0.
@@ -70,23 +120,20 @@ pub fn seen_in(form: &Form, dbd: &Dbd, code: u8, segment: &[u8]) -> Option<Seen>
     ensures front { (a : ℕ) → OfRead dbd.now a code segment.now (λ m. IfSome result (λ s. s.front ≡ key_front (key_of dbd.now.types (segment_at m a)))) }
     ensures childless { (a : ℕ) → OfRead dbd.now a code segment.now (λ m. IfSome result (λ s. s.is_childless ≡ true → IsChildless dbd.now.types m a)) }
 {
-    let layout = form.layout;
-    if segment.len() < 2 || segment.len() < layout.prefix_length() as usize {
+    if form.prefix < form.twins_end {
+        return None;
+    }
+    if segment.len() < form.prefix {
         return None;
     }
     if delete_byte_of(segment) != 0 {
         return None;
     }
     let front = key_front(key_at(form.key, dbd, code, segment));
-    let is_childless = if form.is_leaf {
-        true
-    } else {
-        layout.names_no_children(segment)
-    };
     Some(Seen {
-        forward: layout.read(segment, Pointer::TwinForward),
-        backward: layout.read(segment, Pointer::TwinBackward),
+        forward: twin_forward_of(segment),
+        backward: backward_in(form, segment),
         front,
-        is_childless,
+        is_childless: names_no_children(form, segment),
     })
 }

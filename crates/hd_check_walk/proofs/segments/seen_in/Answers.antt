@@ -1,12 +1,35 @@
-use Rattle.std.proofs.Common.{ℕ, List, sym, ap, ◌∙◌}
+use Rattle.std.proofs.Common.{◌≡◌, ◌≤◌, ℕ, List, inl, inr, sym, ap, ◌∙◌, arith}
 use Rattle.hd_dbd.specs.Types.{SegmentType}
-use Rattle.hd_prefix.specs.declared.pointer.Pointer.TheVariants.{FirstChild, LastChild}
-use Rattle.hd_prefix.specs.Layouts.{types_of, type_code}
+use Rattle.hd_check_pointers.proofs.ChildPointers.{forward-read, backward-read}
 use Rattle.hd_check_pointers.proofs.KeyOrder.{lent-key}
 use Rattle.hd_check_walk.specs.Reading.{key_front}
-use Rattle.hd_check_walk.proofs.SegmentFacts.{layout-read, childless, leaf-childless}
+use Rattle.hd_prefix.specs.Fields.{twins_end}
+use Rattle.hd_check_walk.proofs.SegmentFacts.{twins-least, lent-own, forward-kept, names-none, childless, leaf-childless}
 use Rattle.hd_check_walk.proofs.segments.seen_in.Goals as goal
-use Rattle.hd_check_walk.proofs.segments.seen_in.Goals.{then-form, else-form}
+
+-- a prefix that goes on to the end of its twin pointers has a twin forward
+long : (types : List SegmentType) (code prefix end : ℕ) → end ≡ twins_end types code → end ≤ prefix → 6 ≤ prefix
+long types code prefix end is within = (let least = twins-least types code in omega arith)
+
+pub delete_byte_of-requires : goal.delete_byte_of-requires
+delete_byte_of-requires c = (let some = long c.args.dbd.now.types c.args.code c.args.form.now.prefix c.args.form.now.twins_end c.requires.form.twins (let few = c.if-form.false in omega arith) in let whole = c.if-segment-form.false in omega arith)
+
+pub twin_forward_of-requires : goal.twin_forward_of-requires
+twin_forward_of-requires c = (let some = long c.args.dbd.now.types c.args.code c.args.form.now.prefix c.args.form.now.twins_end c.requires.form.twins (let few = c.if-form.false in omega arith) in let whole = c.if-segment-form.false in omega arith)
+
+pub returns-clause-forward : goal.returns-clause-forward
+returns-clause-forward c = λ a v of lent coded.
+    let types : List SegmentType = c.args.dbd.now.types in
+    let form = c.requires.form in
+    let least = long types c.args.code c.args.form.now.prefix c.args.form.now.twins_end form.twins (let few = c.if-form.false in omega arith) in
+    forward-read types v a c.args.code c.args.segment.now c.twin_forward_of.result lent.stored (lent-own types v a c.args.code c.args.segment.now lent coded)
+    (c.twin_forward_of.ensures ∙ sym (forward-kept types c.args.code c.args.segment.now (let is = form.prefixed in omega arith)))
+
+pub returns-clause-backward : goal.returns-clause-backward
+returns-clause-backward c = λ a v of lent coded.
+    let types : List SegmentType = c.args.dbd.now.types in
+    backward-read types v a c.args.code c.args.segment.now c.backward_in.result lent.stored (lent-own types v a c.args.code c.args.segment.now lent coded)
+    (c.backward_in.ensures types c.args.code c.requires.form.twins)
 
 pub returns-clause-front : goal.returns-clause-front
 returns-clause-front c = λ a v of lent coded.
@@ -17,15 +40,9 @@ returns-clause-childless c = λ a v of lent coded yes.
     let types : List SegmentType = c.args.dbd.now.types in
     let code : ℕ = c.args.code in
     let segment : List ℕ = c.args.segment.now in
-    let layout = c.args.form.now.layout in
     let form = c.requires.form in
-    elim c.if-form.branch [
-      | then-form w ↦ leaf-childless types v a code segment lent coded (sym form.leaf ∙ w.if-form.true)
-      | else-form w ↦
-          (let none = w.names_no_children-is_childless.ensures in
-          let told = sym w.is_childless-is ∙ yes in
-          childless types v a code segment lent coded (λ t. (
-            sym (layout-read types (types_of layout) code (type_code layout) (FirstChild t) segment 0 form.of form.coded (sym (none.firsts told t))),
-            sym (layout-read types (types_of layout) code (type_code layout) (LastChild t) segment 0 form.of form.coded (sym (none.lasts told t))),
-          )))
+    elim (c.names_no_children.ensures yes) [
+      | inl leaf ↦ leaf-childless types v a code segment lent coded (sym form.leaf ∙ leaf)
+      | inr zeros ↦ childless types v a code segment lent coded
+          (names-none c.args.dbd.now code segment of.fit (λ i low high. zeros i (let is = form.twins in omega arith) (let is = form.prefixed in omega arith)))
     ]
