@@ -15,17 +15,15 @@ use hd_index_blocks::{ADDRESS, COUNT, NEXT, entry_place};
 use hd_stores::BlockStore;
 use hd_volume::Volume;
 
-/// The bytes of an entry at the front: its key and its address.
-fn entry_bytes(key: &[u8], address: u32) -> [u8; 259]
+/// Puts the bytes of an entry at the front of some bytes: its key and its address.
+fn put_entry(key: &[u8], address: u32, entry: &mut [u8; 259])
     requires short { length key.now ≤ 255 }
-    ensures len { length result ≡ 259 }
-    ensures key { take (length key.now) result ≡ key.now }
-    ensures address { number_at 4 result (length key.now) ≡ address }
+    ensures len { length entry.new ≡ 259 }
+    ensures key { take (length key.now) entry.new ≡ key.now }
+    ensures address { number_at 4 entry.new (length key.now) ≡ address }
 {
-    let mut entry = [0; 259];
     entry[..key.len()].copy_from_slice(key);
-    write_u32(&mut entry, key.len(), address);
-    entry
+    write_u32(entry, key.len(), address);
 }
 
 /// Puts an entry into a block, before the entry at an index.
@@ -53,7 +51,8 @@ pub fn add_entry<S: BlockStore>(
 {
     let width = key.len() + ADDRESS;
     let place = entry_place(key.len(), index);
-    let entry = entry_bytes(key, address);
+    let mut entry = [0; 259];
+    put_entry(key, address, &mut entry);
     move_up(volume, n, place, place + width, (count - index) * width)?;
     write_part(volume, n, place, &entry[..width])?;
     write_part(volume, n, COUNT, &two_bytes((count + 1) as u16))

@@ -29,14 +29,14 @@ returns-clause-added g c =
     let n : ℕ = c.args.n in
     let b : List ℕ = block_at u n in
     let place : c.entry_place-place.result ≡ 12 + i * (k + 4) = c.entry_place-place.ensures in
-    let entry : List ℕ = c.entry_bytes-entry.result in
+    let entry : List ℕ = c.put_entry.new.entry in
     let xs : List ℕ = take (k + 4) entry in
     let two : List ℕ = c.two_bytes.result in
     let short = c.requires.short in
-    let le : length entry ≡ 259 = c.entry_bytes-entry.ensures.len in
+    let le : length entry ≡ 259 = c.put_entry.ensures.len in
     let lx : length xs ≡ k + 4 = length-take-le (k + 4) entry (omega arith) in
     let bytes : IsEntryBytes k xs (record { key = c.args.key.now; address = c.args.address }) =
-    record { len = lx; key = take-take k (k + 4) entry (omega arith) ∙ c.entry_bytes-entry.ensures.key; address = number-front 4 k (k + 4) entry (omega arith) (omega arith) ∙ c.entry_bytes-entry.ensures.address } in
+    record { len = lx; key = take-take k (k + 4) entry (omega arith) ∙ c.put_entry.ensures.key; address = number-front 4 k (k + 4) entry (omega arith) (omega arith) ∙ c.put_entry.ensures.address } in
     on-ok-map c.write_part-2.result
     (λ (last : IsTrue x.is_sound → HasNewBytes x n (with_bytes (block_at x n) 4 two) w) (sound : IsTrue u.is_sound).
     let s1 : IsTrue v.is_sound = rw c.in_ok-move_up.ensures.call.sound sound in
