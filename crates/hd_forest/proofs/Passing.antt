@@ -1,6 +1,6 @@
 -- Passing over the twins of a block.
-use Rattle.std.proofs.Common.{◌≡◌, ℕ, zero, suc, ◌+◌, ◌<◌, List, true, sym, ap, ap₂, ◌∙◌, subst, arith, inl, inr}
-use Rattle.std.proofs.lemmas.Bool.{cases_lt}
+use Rattle.std.proofs.Common.{◌≡◌, ◌⊎◌, ℕ, zero, suc, ◌+◌, ◌<◌, List, true, sym, ap, ap₂, ◌∙◌, subst, arith, inl, inr}
+use Rattle.std.proofs.lemmas.Bool.{cases_lt, false≢true}
 use Rattle.hd_forest.specs.declared.twins.TwinPlaces.{TwinPlaces}
 use Rattle.hd_forest.specs.declared.block_twins.Walk.{Walk}
 use Rattle.hd_forest.specs.BlockTwins.{HasTwin, forward_in, is_below_in, twin_in, twin_before, AreBelowIn, IsPassage, IsWalk}
@@ -63,3 +63,24 @@ walk-on places block start key other p part walk P W =
             let more : 0 < k = W.moves on (subst (HasTwin places block start) (sym here) there) in omega arith)
       ];
     }
+
+-- a passage that found a twin, or came to one that the block does not have, is a walk
+pub walk-ends : (places : TwinPlaces) (block : List ℕ) (start : ℕ) (key : List ℕ) (other p : ℕ) (part : Walk) → IsPassage places block start key other p part
+    → (part.is_found ≡ true) ⊎ (HasTwin places block start part.twin → ⊥) → IsWalk places block start key other p part
+walk-ends places block start key other p part P ends = record {
+  steps = P.steps;
+  below = P.below;
+  twin = P.twin;
+  before = P.before;
+  found = P.found;
+  moves = λ none there. elim ends [
+    | inl found ↦ absurd (false≢true (sym none ∙ found))
+    | inr outside ↦ elim (cases_lt 0 P.steps) [
+      | inl some ↦ some
+      | inr least ↦ absurd
+          (let z : P.steps ≡ 0 = omega arith in
+          let here : part.twin ≡ p = P.twin ∙ ap (λ (m : ℕ). twin_in places block start m p) z in
+          outside (subst (HasTwin places block start) (sym here) there))
+    ]
+  ];
+}

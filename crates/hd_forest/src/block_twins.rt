@@ -129,6 +129,7 @@ fn pass_by_number(
 }
 
 /// Passes over the twins of a block, whose first byte has an address, from one on, behind another, as far as their keys are below a key.
+#[inline(never)] // What it keeps over its calls is not put aside where keys have numbers.
 fn pass_by_key(
     places: TwinPlaces,
     block: &[u8],
@@ -186,7 +187,7 @@ pub fn pass_in(
         return pass_by_key(places, block, start, behind, address, key);
     };
     let part = pass_by_number(places, block, start, behind, address, key, number);
-    if part.is_found {
+    if part.is_found || !has_twin(places, block, start, part.twin) {
         return part;
     }
     pass_by_key(places, block, start, part.before, part.twin, key)
