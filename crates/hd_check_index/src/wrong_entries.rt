@@ -1,15 +1,12 @@
 //! Phase 12: each entry names a root of its key.
-ghost use Rattle.std.specs.Prelude.{◌≡◌, ℕ, ◌+◌, ◌<◌, ◌≤◌, ◌/◌, min, List, [], ◌++◌, ◌==◌, ◌&&◌, not, Some, map, length, bytes_eq, true, false, IsTrue, IfOk, IfSome};
+ghost use Rattle.std.specs.Prelude.{◌≡◌, ℕ, ◌<◌, ◌≤◌, ◌/◌, List, [], ◌++◌, ◌==◌, ◌&&◌, not, Some, map, bytes_eq, true, false, IsTrue, IfOk, IfSome};
 ghost use Rattle.std.specs.List.{list_all};
 ghost use Rattle.hd_bytes.specs.Blocks.{HasBlock};
-ghost use Rattle.hd_dbd.specs.Facts.{stored_sizes};
 ghost use Rattle.hd_dbd.specs.Refusals.{OnlyMemory, OnlyDevice, OnlyDeviceOrMemory};
 ghost use Rattle.hd_dbd.specs.Hierarchy.{Database};
 ghost use Rattle.hd_dbd.specs.Rows.{key_of};
-ghost use Rattle.hd_volume.specs.Volumes.{VolumeState, block_at};
+ghost use Rattle.hd_volume.specs.Volumes.{VolumeState, block_at, IsFormatted};
 ghost use Rattle.hd_volume.specs.Entries.{entries_in};
-ghost use Rattle.hd_block.specs.Sizes.{size_at};
-ghost use Rattle.hd_volume.specs.Records.{find};
 ghost use Rattle.hd_index_blocks.specs.Fields.{entry_count, entry_in};
 ghost use Rattle.hd_index_blocks.specs.IndexSets.{index_entries};
 ghost use Rattle.hd_volume.specs.Indexes.{root_key_length, IsEntryBlock};
@@ -21,21 +18,20 @@ ghost use Rattle.hd_check_blocks.specs.Phases.{IsLeastOf};
 ghost use Rattle.hd_check_blocks.specs.Listing.{AreStanding};
 ghost use Rattle.hd_check_blocks.specs.Places.{IsPlaceOf, ArePlaces};
 ghost use Rattle.hd_check_blocks.specs.Keys.{key_place};
-ghost use Rattle.hd_check_index.specs.DataBlocks.{OfBlockOf, OfDataBlock, FirstNameRoots, AreFirstNoted};
+ghost use Rattle.hd_check_index.specs.DataBlocks.{OfBlockAt, BeginThere, OfDataBlock, FirstNameRoots, AreFirstNoted};
 ghost use Rattle.hd_check_index.specs.IndexPhases.{OfCounted, IsSequence, AreNamed, AllNameRoots, first_wrong_in, first_wrong_entry};
 ghost use Rattle.hd_check_blocks.specs.Finding.{WhereNone, WhereSome};
 
 use crate::listed::fault_naming;
 use crate::noted_blocks::block_address;
-use hd_block::size_at;
 use hd_check_blocks::{
     Directory, Fault, KeyPlace, Place, key_at, key_place, list_fault, number_near,
 };
-use hd_dbd::{Dbd, Refused, SegmentSize, compare_keys};
+use hd_dbd::{Dbd, Refused, compare_keys};
 use hd_image::Line;
 use hd_index_blocks::{FIRST, IndexBlock, root_key_length};
 use hd_stores::BlockStore;
-use hd_volume::{Volume, size_table};
+use hd_volume::Volume;
 use std::alloc::Global;
 
 /// Whether a stored root has a key, by where roots have theirs.
@@ -85,24 +81,9 @@ fn names_root<S: BlockStore>(
     Ok(has_key(own, dbd, segment, key))
 }
 
-/// Where the segment at a place of a block ends, at most at the end of the block.
-fn segment_end(block: &[u8], sizes: &[SegmentSize], at: usize) -> usize
-    requires { (at < length block.now) × (length block.now ≤ 32768) }
-    ensures { result ≡ min (at + size_at sizes.now block.now at) (length block.now) }
-{
-    let len = size_at(block, sizes, at);
-    at.saturating_add(len).min(block.len())
-}
-
-/// The segment at an address in a data block that begins at another; `None` where the address is not in the block.
-fn segment_in<'b>(
-    bytes: &'b [u8],
-    sizes: &[SegmentSize],
-    first: u32,
-    address: u32,
-) -> Option<&'b [u8]>
-    requires short { length bytes.now ≤ 32768 }
-    ensures { IfSome result (λ s. OfBlockOf sizes.now bytes.now first (λ v. HasSegment v address 0 → find v address ≡ Some s.now)) }
+/// The bytes of a data block that begins at an address from another on; `None` where that is not in the block.
+fn bytes_from<'b>(bytes: &'b [u8], first: u32, address: u32) -> Option<&'b [u8]>
+    ensures { IfSome result (λ s. OfBlockAt bytes.now first (λ v. IsFormatted v → HasSegment v address 0 → BeginThere v address s.now)) }
 {
     if address < first {
         return None;
@@ -111,8 +92,7 @@ fn segment_in<'b>(
     if at >= bytes.len() {
         return None;
     }
-    let end = segment_end(bytes, sizes, at);
-    Some(&bytes[at..end])
+    Some(&bytes[at..])
 }
 
 /// Whether a root stands at an address, which is that of the place of a number.
@@ -136,21 +116,18 @@ fn names_root_in(
     places: &[Place],
     number: usize,
     bytes: &[u8],
-    sizes: &[SegmentSize],
     first: u32,
     dbd: &Dbd,
     key: &[u8],
     address: u32,
 ) -> bool
     requires own { own ≡ key_place dbd.now.types 1 }
-    requires sizes { sizes.now ≡ stored_sizes dbd.now.types }
-    requires short { length bytes.now ≤ 32768 }
     ensures { result ≡ true → OfDataBlock dbd.now places.now bytes.now first (λ v. names_a_root dbd.now (links_of dbd.now.types v) (record { key = key.now; address = address }) ≡ true) }
 {
     if !is_root_at(places, number, address) {
         return false;
     }
-    match segment_in(bytes, sizes, first, address) {
+    match bytes_from(bytes, first, address) {
         Some(segment) => has_key(own, dbd, segment, key),
         None => false,
     }
@@ -164,15 +141,12 @@ fn name_on(
     places: &[Place],
     near: usize,
     bytes: &[u8],
-    sizes: &[SegmentSize],
     first: u32,
     dbd: &Dbd,
     block: &IndexBlock,
     index: usize,
 ) -> Result<usize, Refused>
     requires own { own ≡ key_place dbd.now.types 1 }
-    requires sizes { sizes.now ≡ stored_sizes dbd.now.types }
-    requires short { length bytes.now ≤ 32768 }
     requires low { index ≤ entry_count block.now.key_length block.now.bytes.now }
     ensures low { IfOk result (λ i. (index ≤ i) × (i ≤ entry_count block.now.key_length block.now.bytes.now)) }
     ensures right { IfOk result (λ i. OfDataBlock dbd.now places.now bytes.now first (λ v. FirstNameRoots dbd.now v block.now.key_length block.now.bytes.now index → FirstNameRoots dbd.now v block.now.key_length block.now.bytes.now i)) }
@@ -184,7 +158,7 @@ fn name_on(
     for next in index..count {
         let key = block.key(next);
         let address = block.address(next);
-        if !names_root_in(own, places, number, bytes, sizes, first, dbd, key, address) {
+        if !names_root_in(own, places, number, bytes, first, dbd, key, address) {
             return Ok(next);
         }
         if named.push(address).is_err() {
@@ -220,14 +194,12 @@ fn name_beside<S: BlockStore>(
     places: &[Place],
     near: usize,
     volume: &mut Volume<S>,
-    sizes: &[SegmentSize],
     address: u32,
     dbd: &Dbd,
     block: &IndexBlock,
     index: usize,
 ) -> Result<usize, Refused>
     requires own { own ≡ key_place dbd.now.types 1 }
-    requires sizes { sizes.now ≡ stored_sizes dbd.now.types }
     requires low { index ≤ entry_count block.now.key_length block.now.bytes.now }
     requires of { IsTrue volume.old.is_sound → IsVolumeOf dbd.now volume.old }
     requires places { IsTrue volume.old.is_sound → ArePlaces dbd.now.types volume.old places.now }
@@ -241,13 +213,8 @@ fn name_beside<S: BlockStore>(
     let size = volume.block_size() as u32;
     let n = address / size;
     let bytes = volume.block(n)?;
-    if bytes.len() > 32768 {
-        return Ok(index);
-    }
     let first = n * size;
-    name_on(
-        named, own, places, near, bytes, sizes, first, dbd, block, index,
-    )
+    name_on(named, own, places, near, bytes, first, dbd, block, index)
 }
 
 /// Judges the entry of an index block at an index, and those behind it whose roots stand beside its root; what they name is noted. The index behind them, or
@@ -259,13 +226,11 @@ fn judge_from<S: BlockStore>(
     directory: &Directory,
     near: &mut usize,
     volume: &mut Volume<S>,
-    sizes: &[SegmentSize],
     dbd: &Dbd,
     block: &IndexBlock,
     index: usize,
 ) -> Result<Option<usize>, Refused>
     requires own { own ≡ key_place dbd.now.types 1 }
-    requires sizes { sizes.now ≡ stored_sizes dbd.now.types }
     requires low { index < entry_count block.now.key_length block.now.bytes.now }
     requires of { IsTrue volume.old.is_sound → IsVolumeOf dbd.now volume.old }
     requires places { IsTrue volume.old.is_sound → ArePlaces dbd.now.types volume.old places.now }
@@ -290,7 +255,7 @@ fn judge_from<S: BlockStore>(
         return Ok(Some(behind));
     }
     let end = name_beside(
-        named, own, places, *near, volume, sizes, address, dbd, block, behind,
+        named, own, places, *near, volume, address, dbd, block, behind,
     )?;
     *near = near.saturating_add(end - behind);
     Ok(Some(end))
@@ -303,13 +268,11 @@ fn wrong_among<S: BlockStore>(
     directory: &Directory,
     near: &mut usize,
     volume: &mut Volume<S>,
-    sizes: &[SegmentSize],
     dbd: &Dbd,
     block: &IndexBlock,
 ) -> Result<Option<u32>, Refused>
     requires of { IsTrue volume.old.is_sound → IsVolumeOf dbd.now volume.old }
     requires places { IsTrue volume.old.is_sound → ArePlaces dbd.now.types volume.old places.now }
-    requires sizes { sizes.now ≡ stored_sizes dbd.now.types }
     ensures read { IsRead volume.old result volume.new }
     ensures none { WhereNone volume.old result (OfCounted block.now.key_length block.now.bytes.now (λ es. list_all (λ e. names_a_root dbd.now (links_of dbd.now.types volume.old) e) es ≡ true)) }
     ensures named { WhereNone volume.old result (OfCounted block.now.key_length block.now.bytes.now (λ es. named.new.items ≡ named.old.items ++ map (λ e. e.address) es)) }
@@ -321,7 +284,7 @@ fn wrong_among<S: BlockStore>(
     let mut index: usize = 0;
     while index < count {
         let judged = judge_from(
-            named, own, places, directory, near, volume, sizes, dbd, block, index,
+            named, own, places, directory, near, volume, dbd, block, index,
         )?;
         match judged {
             Some(behind) => index = behind,
@@ -340,11 +303,9 @@ fn wrong_entry<S: BlockStore>(
     directory: &Directory,
     near: &mut usize,
     volume: &mut Volume<S>,
-    sizes: &[SegmentSize],
     dbd: &Dbd,
     n: u32,
 ) -> Result<Option<u32>, Refused>
-    requires sizes { sizes.now ≡ stored_sizes dbd.now.types }
     requires of { IsTrue volume.old.is_sound → IsVolumeOf dbd.now volume.old }
     requires places { IsTrue volume.old.is_sound → ArePlaces dbd.now.types volume.old places.now }
     requires block { IsTrue volume.old.is_sound → IsEntryBlock (root_key_length dbd.now.types) volume.old n }
@@ -364,7 +325,7 @@ fn wrong_entry<S: BlockStore>(
         bytes: &bytes,
         key_length,
     };
-    wrong_among(named, places, directory, near, volume, sizes, dbd, &block)
+    wrong_among(named, places, directory, near, volume, dbd, &block)
 }
 
 /// The bytes of a block, copied.
@@ -399,14 +360,11 @@ pub fn wrong_entry_fault<S: BlockStore>(
     ensures some { WhereSome volume.old result (λ f. IsLeastOf dbd.now volume.old 12 f) }
     ensures refusal { OnlyDeviceOrMemory result }
 {
-    let Ok(sizes) = size_table(alloc, dbd) else {
-        return Err(Refused::Memory);
-    };
     let size = volume.block_size() as u32;
     let mut near = 0;
     for block in blocks {
         match wrong_entry(
-            alloc, named, places, directory, &mut near, volume, &sizes, dbd, *block,
+            alloc, named, places, directory, &mut near, volume, dbd, *block,
         )? {
             None => {}
             Some(address) => {
@@ -433,16 +391,13 @@ pub fn wrong_entry_faults<S: BlockStore>(
     ensures faults { IfOk result (λ faults. IsTrue volume.old.is_sound → AreStanding dbd.now volume.old 12 faults.items) }
     ensures refusal { OnlyDeviceOrMemory result }
 {
-    let Ok(sizes) = size_table(alloc, dbd) else {
-        return Err(Refused::Memory);
-    };
     let size = volume.block_size() as u32;
     let mut near = 0;
     let mut named = Vec::new(alloc);
     let mut faults = Vec::new(alloc);
     for block in blocks {
         let found = wrong_entry(
-            alloc, &mut named, places, directory, &mut near, volume, &sizes, dbd, *block,
+            alloc, &mut named, places, directory, &mut near, volume, dbd, *block,
         )?;
         list_fault(
             &mut faults,
