@@ -1,4 +1,4 @@
-use Rattle.std.proofs.Common.{◌<◌, length, false, sym, ap, subst, ◌∙◌, arith, inl, inr}
+use Rattle.std.proofs.Common.{◌≡◌, ◌<◌, length, sym, ap, subst, ◌∙◌, arith, inl, inr}
 use Rattle.std.specs.Prelude.{◌==◌}
 use Rattle.std.proofs.lemmas.Bool.{cases_lt, and_parts, eqb-true, eq-eqb, false≢true}
 use Rattle.hd_dbd.specs.Paths.{row_at}
@@ -29,11 +29,11 @@ leave_on-requires-clause-code g c sound =
     let on : IsOnRow d.types (links_of d.types u) T.0 c.args.path P.0 = record { holds = T.2.holds.records; within = F.within; is = P.2 } in
     let some : 0 < length call.ssas = elim (cases_lt 0 (length call.ssas)) [
       | inl w ↦ w
-      | inr w ↦ absurd (let z : length call.ssas ≡ 0 = omega arith in false≢true (sym c.if-not-is_empty.false ∙ c.is_empty.ensures ∙ eq-eqb (length call.ssas) 0 z))
+      | inr w ↦ absurd (let z : length call.ssas ≡ 0 = omega arith in false≢true (sym c.if-not-is_empty.true ∙ c.is_empty.ensures ∙ ap (λ (x : GetCall). length x.ssas == 0) c.call.view_is ∙ eq-eqb (length call.ssas) 0 z))
     ] in
     let named = (and_parts (is_named d.types rows call.ssas P.0) _ (sym (satisfies_named (record { types = d.types; pcb = call.pcb }) rows call.ssas P.0 some) ∙ F.passes)).0 in
     let code = eqb-true (row_at rows P.0).code (target_code call.ssas) (and_parts ((row_at rows P.0).code == target_code call.ssas) _ named).0 in
-    c.target_code-code.ensures ∙ sym code ∙ sym (tip_code d.types (links_of d.types u) T.0 (grounds d u T.0 T.2.holds.volume T.2.holds.records) c.args.path P.0 on)
+    c.target_code-code.ensures ∙ ap (λ (x : GetCall). target_code x.ssas) c.call.view_is ∙ sym code ∙ sym (tip_code d.types (links_of d.types u) T.0 (grounds d u T.0 T.2.holds.volume T.2.holds.records) c.args.path P.0 on)
 
 pub code_at-requires-clause-there : goal.code_at-requires-clause-there
 code_at-requires-clause-there g c sound =
