@@ -187,7 +187,7 @@ fn is_beside(
     is_root_at(places, number, next) && next / size == address / size
 }
 
-/// The same over the data block of an address, which is brought to hand.
+/// Notes what the entries of an index block name, as `name_on` does, over the data block of an address, which is read.
 fn name_beside<S: BlockStore>(
     named: &mut Vec<u32>,
     own: Option<KeyPlace>,
