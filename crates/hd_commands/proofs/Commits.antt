@@ -1,5 +1,5 @@
 -- What a crash leaves of calls with commits among them.
-use Rattle.std.proofs.Common.{◌≡◌, ℕ, List, [], ◌∷◌, ◌++◌, length, true, refl, inl, inr, ap, sym, ◌∙◌, subst}
+use Rattle.std.proofs.Common.{◌≡◌, ℕ, zero, suc, List, [], ◌∷◌, ◌++◌, length, take, drop, true, refl, inl, inr, ap, sym, ◌∙◌, subst}
 use Rattle.hd_dbd.specs.Types.{View}
 use Rattle.hd_dbd.specs.Hierarchy.{Database}
 use Rattle.hd_dbd.specs.Segment.{Segment}
@@ -12,7 +12,7 @@ use Rattle.hd_stores.specs.Stores.{Commit, Committed, commits_of, FailsCommit}
 use Rattle.hd_changes.specs.VolumeImages.{images_of}
 use Rattle.std.proofs.lemmas.List.{append-nil, length-map}
 use Rattle.hd_session.specs.Turns.{Turn}
-use Rattle.hd_session.specs.Requests.{Request, ask, commit, calls_in, committed_by, Lasts}
+use Rattle.hd_session.specs.Requests.{Request, ask, make, foretell, commit, calls_in, committed_by, Lasts}
 use Rattle.hd_session.proofs.Requests.{calls_append, committed_append, lasts_both, one_lasts}
 use Rattle.hd_deck.specs.Runs.{IsPlayed}
 use Rattle.hd_deck.specs.Commits.{Stored, IsDone}
@@ -39,12 +39,22 @@ first_passes : (d : Database) (pcbs : List View) (st : State) (entries : List (E
 first_passes d pcbs st [] last follow = passes d last follow.1.placed st.rows follow.1.holds follow.1.rows_are
 first_passes d pcbs st (e ∷ es) last follow = passes d e.before follow.0.1.placed st.rows follow.0.1.holds follow.0.1.rows_are
 
+-- the images behind the first entries follow from the state behind them
+follow_behind : (d : Database) (pcbs : List View) (n : ℕ) (st : State) (entries : List (Entry (List ℕ))) (last : List ℕ) → ImagesFollow (images_of d) d.types pcbs st entries last
+    → ImagesFollow (images_of d) d.types pcbs (last_state d.types pcbs st (take n entries)) (drop n entries) last
+follow_behind d pcbs zero st entries last follow = follow
+follow_behind d pcbs (suc n) st [] last follow = follow
+follow_behind d pcbs (suc n) st (e ∷ es) last follow = follow_behind d pcbs n (next_state d.types pcbs st e) es last follow.2
+
 -- the images that commits among requests found pass for the rows at them
 commits_pass : (d : Database) (pcbs : List View) (st : State) (requests : List Request) (entries : List (Entry (List ℕ))) (last : List ℕ)
     → ImagesFollow (images_of d) d.types pcbs st entries last → AllPass d (committed_by requests entries last) (rows_at_commits d.types pcbs st requests entries)
 commits_pass d pcbs st [] entries last follow = tt
 commits_pass d pcbs st (ask turn ∷ requests) [] last follow = tt
 commits_pass d pcbs st (ask turn ∷ requests) (e ∷ es) last follow = commits_pass d pcbs (next_state d.types pcbs st e) requests es last follow.2
+commits_pass d pcbs st (make turn n ∷ requests) entries last follow =
+    commits_pass d pcbs (last_state d.types pcbs st (take n entries)) requests (drop n entries) last (follow_behind d pcbs n st entries last follow)
+commits_pass d pcbs st (foretell turn n ∷ requests) entries last follow = commits_pass d pcbs st requests entries last follow
 commits_pass d pcbs st (commit ∷ requests) entries last follow = (first_passes d pcbs st entries last follow, commits_pass d pcbs st requests entries last follow)
 
 -- so do all commits of a store behind them, the last first

@@ -1,8 +1,7 @@
 -- What a play with commits among its calls comes to, and behind a last commit.
 use Rattle.std.proofs.Common.{◌≡◌, ◌≤◌, ◌⊎◌, ◌+◌, ℕ, List, [], ◌∷◌, ◌++◌, length, take, Bool, true, false, IsTrue, Result, Ok, Err, Some, Option, refl, inl, inr, sym, ◌∙◌, ap, subst, arith}
-use Rattle.std.specs.Prelude.{OnOk, OnErr, IfOk, IfErr, unwrap_or}
+use Rattle.std.specs.Prelude.{IfOk, IfErr, unwrap_or}
 use Rattle.std.proofs.lemmas.List.{append-nil, length-append, take_at}
-use Rattle.hd_dbd.specs.declared.answer.Refused.{Refused}
 use Rattle.hd_dbd.specs.Types.{View}
 use Rattle.hd_dbd.specs.Hierarchy.{Database}
 use Rattle.std.specs.Io.KnownBytes.{Appends}
@@ -22,7 +21,7 @@ use Rattle.hd_deck.proofs.Requests.{calls_of_requests}
 use Rattle.hd_journal.specs.Journals.{IsCommitted}
 use Rattle.hd_commands.specs.declared.ended.Ended.{Ended}
 use Rattle.hd_commands.specs.declared.refusal.Refusal.{Refusal}
-use Rattle.hd_commands.specs.declared.refusal.Refusal.TheVariants.{Fault, Old, NotEmpty, Device, Memory}
+use Rattle.hd_commands.specs.declared.refusal.Refusal.TheVariants.{Device}
 use Rattle.hd_commands.specs.Refusals.{of_run}
 use Rattle.hd_commands.specs.Units.{MayCommit, unit_requests, UnitCommits}
 use Rattle.hd_commands.specs.Plays.{PlaySays, FailsOrStays}

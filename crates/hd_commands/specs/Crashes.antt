@@ -1,5 +1,5 @@
 -- What a crash leaves of a volume over which calls are made, with commits among them: the forest of a commit.
-use Rattle.std.specs.Prelude.{◌≡◌, ◌⊎◌, ℕ, ◌≤◌, List, [], ◌∷◌, Option}
+use Rattle.std.specs.Prelude.{◌≡◌, ◌⊎◌, ℕ, ◌≤◌, List, [], ◌∷◌, take, drop, Option}
 use Rattle.hd_dbd.specs.Types.{SegmentType, View}
 use Rattle.hd_dbd.specs.Hierarchy.{Database}
 use Rattle.hd_dbd.specs.Segment.{Segment}
@@ -9,7 +9,7 @@ use Rattle.hd_calls.specs.Runs.{next_state, last_state}
 use Rattle.hd_calls.specs.Steps.{State}
 use Rattle.hd_stores.specs.Stores.{Commit, Committed, commits_of}
 use Rattle.hd_session.specs.Turns.{Turn}
-use Rattle.hd_session.specs.Requests.{Request, ask, commit}
+use Rattle.hd_session.specs.Requests.{Request, ask, make, foretell, commit}
 use Rattle.hd_deck.specs.Commits.{Stored, IsDone, IsDoneUntilFailure}
 use Rattle.hd_journal.specs.Disk as disk
 use Rattle.hd_journal.specs.Log.{recovered}
@@ -24,6 +24,8 @@ abbrev pub rows_at_commits : {Image : Type 0} → List SegmentType → List View
 rows_at_commits types pcbs st [] entries = []
 rows_at_commits types pcbs st (ask turn ∷ requests) [] = []
 rows_at_commits types pcbs st (ask turn ∷ requests) (e ∷ entries) = rows_at_commits types pcbs (next_state types pcbs st e) requests entries
+rows_at_commits types pcbs st (make turn n ∷ requests) entries = rows_at_commits types pcbs (last_state types pcbs st (take n entries)) requests (drop n entries)
+rows_at_commits types pcbs st (foretell turn n ∷ requests) entries = rows_at_commits types pcbs st requests entries
 rows_at_commits types pcbs st (commit ∷ requests) entries = st.rows ∷ rows_at_commits types pcbs st requests entries
 
 -- the later of some come before the earlier, and these before those that came before all of them

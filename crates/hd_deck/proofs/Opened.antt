@@ -43,7 +43,7 @@ module _ (d : Database) (pcbs : List View) (bytes : List ℕ) (v : VolumeState) 
   fault_of_bytes opening.Device h = tt
 
   -- calls that were made in a session over the volume came to a log
-  pub is_played : (w : VolumeState) (ready : IsReadyFor d pcbs v) (turns : List Turn) (entries : List (Entry (List ℕ))) (t : SessionState) (left : List ℕ) → w.image ≡ bytes
+  unfoldable pub is_played : (w : VolumeState) (ready : IsReadyFor d pcbs v) (turns : List Turn) (entries : List (Entry (List ℕ))) (t : SessionState) (left : List ℕ) → w.image ≡ bytes
       → AreMade (session_at_start d pcbs w) (opened pcbs (rows_of ready.placed)) turns entries t → t.volume.image ≡ left
       → IsPlayed d pcbs bytes turns (record { entries = entries; last = t.volume.image }) left
   is_played w ready turns entries t left now made ends = record {

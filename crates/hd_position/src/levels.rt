@@ -31,6 +31,16 @@ impl Levels {
         }
     }
 
+    /// The same levels.
+    pub fn copy(&self) -> Levels
+        ensures { result ≡ self.now }
+    {
+        Levels {
+            levels: self.levels,
+            count: self.count,
+        }
+    }
+
     /// The levels; at most 15.
     pub fn as_slice(&self) -> &[u8]
         ensures value { result.now ≡ self.now }

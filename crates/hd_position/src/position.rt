@@ -59,6 +59,19 @@ impl Position {
         }
     }
 
+    /// The same place.
+    pub fn copy(&self) -> Position
+        ensures { result ≡ self.now }
+    {
+        Position {
+            path: self.path.copy(),
+            standing: self.standing,
+            last: self.last,
+            parent: self.parent,
+            held: self.held.copy(),
+        }
+    }
+
     /// The path of the last row passed, empty before all rows.
     pub fn path(&self) -> &Path
         ensures { result.now ≡ self.now.path }

@@ -40,11 +40,19 @@ long : (status name digits key area : List ℕ) (level : ℕ) → length status 
     → length (0 ∷ (status ++ level ∷ (name ++ (digits ++ (key ++ area))))) ≡ 14 + length key + length area
 long status name digits key area level s n d = simp length-append (omega arith)
 
--- the parts of an answer, one behind the other, are its frame
-pub answer-spelled : (r : Reply) (size : ℕ) (name : List ℕ) → name ≡ unwrap_or r.segment (replicate 8 32) → length name ≡ 8 → size ≡ 14 + length r.key + length r.area
-    → ((((((to_be_bytes w32 size ++ 0 ∷ []) ++ status_text r.status) ++ r.level ∷ []) ++ name) ++ to_be_bytes w16 (length r.key)) ++ r.key) ++ r.area ≡ frame_bytes (answer_bytes r)
-answer-spelled r size name is eight sum =
-    parts (to_be_bytes w32 size) (status_text r.status) name (to_be_bytes w16 (length r.key)) r.key r.area r.level
-    ∙ ap (λ (n : ℕ). to_be_bytes w32 n ++ (0 ∷ (status_text r.status ++ r.level ∷ (name ++ (to_be_bytes w16 (length r.key) ++ (r.key ++ r.area))))))
-    (sum ∙ sym (long (status_text r.status) name (to_be_bytes w16 (length r.key)) r.key r.area r.level (two-letters r.status) eight refl))
-    ∙ ap (λ (xs : List ℕ). frame_bytes (0 ∷ (status_text r.status ++ r.level ∷ (xs ++ (to_be_bytes w16 (length r.key) ++ (r.key ++ r.area)))))) is
+-- the parts of an answer, one behind the other, are its frame, behind what stands before
+pub answer-pushed : (old : List ℕ) (r : Reply) (size : ℕ) (name : List ℕ) → name ≡ unwrap_or r.segment (replicate 8 32) → length name ≡ 8 → size ≡ 14 + length r.key + length r.area
+    → (((((((old ++ to_be_bytes w32 size) ++ 0 ∷ []) ++ status_text r.status) ++ r.level ∷ []) ++ name) ++ to_be_bytes w16 (length r.key)) ++ r.key) ++ r.area ≡ old ++ frame_bytes (answer_bytes r)
+answer-pushed old r size name is eight sum =
+    let digits : List ℕ = to_be_bytes w16 (length r.key) in
+    let body : List ℕ = 0 ∷ (status_text r.status ++ r.level ∷ (name ++ (digits ++ (r.key ++ r.area)))) in
+    parts (old ++ to_be_bytes w32 size) (status_text r.status) name digits r.key r.area r.level
+    ∙ append_assoc old (to_be_bytes w32 size) body
+    ∙ ap (λ (xs : List ℕ). old ++ xs) (spelled r size name is eight sum)
+  where
+    spelled : (r : Reply) (size : ℕ) (name : List ℕ) → name ≡ unwrap_or r.segment (replicate 8 32) → length name ≡ 8 → size ≡ 14 + length r.key + length r.area
+        → to_be_bytes w32 size ++ (0 ∷ (status_text r.status ++ r.level ∷ (name ++ (to_be_bytes w16 (length r.key) ++ (r.key ++ r.area))))) ≡ frame_bytes (answer_bytes r)
+    spelled r size name is eight sum =
+        ap (λ (n : ℕ). to_be_bytes w32 n ++ (0 ∷ (status_text r.status ++ r.level ∷ (name ++ (to_be_bytes w16 (length r.key) ++ (r.key ++ r.area))))))
+        (sum ∙ sym (long (status_text r.status) name (to_be_bytes w16 (length r.key)) r.key r.area r.level (two-letters r.status) eight refl))
+        ∙ ap (λ (xs : List ℕ). frame_bytes (0 ∷ (status_text r.status ++ r.level ∷ (xs ++ (to_be_bytes w16 (length r.key) ++ (r.key ++ r.area)))))) is

@@ -66,6 +66,10 @@ segment-told (Some (b ∷ bs)) h =
       ap suc (eqb-true (length bs) 7 both.1),
     )
 
+-- a segment's name has eight bytes, and so have the blanks
+pub segment-long : (o : Option (List ℕ)) → IfSome o (λ name. IsTrue (is_name name)) → length (name-of o) ≡ 8
+segment-long o h = (segment-told o h).1
+
 -- lists of one length in front of others are told from what is behind
 parted : (n : ℕ) (a b x y : List ℕ) → length a ≡ n → length b ≡ n → a ++ x ≡ b ++ y → (a ≡ b) × (x ≡ y)
 parted n a b x y l m e = (

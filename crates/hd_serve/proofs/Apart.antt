@@ -47,8 +47,10 @@ call-short limits c fits =
     )
 
 -- and that of a right request
-request-short : (limits : Limits) (r : FramedRequest) → RequestFits limits r → length (request_bytes r) ≤ 983062 + limits.area
-request-short limits (asks.Call c) fits = call-short limits c fits
+request-short : (limits : Limits) (r : FramedRequest) → RequestFits limits r → length (request_bytes r) ≤ 983064 + limits.area
+request-short limits (asks.Call c) fits = (let short : length (call_bytes c) ≤ 983062 + limits.area = call-short limits c fits in omega (arith, short))
+request-short limits (asks.Make c n) fits = (let short : length (call_bytes c) ≤ 983062 + limits.area = call-short limits c fits.0 in omega (arith, short))
+request-short limits (asks.Foretell c n) fits = (let short : length (call_bytes c) ≤ 983062 + limits.area = call-short limits c fits.0 in omega (arith, short))
 request-short limits asks.Commit fits = omega arith
 request-short limits asks.RollBack fits = omega arith
 
@@ -63,7 +65,7 @@ none-wrong limits r rest few fits =
     let size : from_be_bytes w32 bytes ≡ length (request_bytes r) = size-of limits r rest few fits in
     let long : length bytes ≡ 4 + length (request_bytes r) + length rest = omega (arith, length-append (request_bytes r) rest) in
     let whole : 4 + from_be_bytes w32 bytes ≤ length bytes = omega (arith, size, long) in
-    let short : is_long limits (from_be_bytes w32 bytes) ≡ false = le-ltb (983062 + limits.area) (from_be_bytes w32 bytes) (omega (arith, size, request-short limits r fits)) in
+    let short : is_long limits (from_be_bytes w32 bytes) ≡ false = le-ltb (983064 + limits.area) (from_be_bytes w32 bytes) (omega (arith, size, request-short limits r fits)) in
     whole-fault limits bytes whole short
     ∙ ap (λ (n : ℕ). fault_of (request_in limits (take n (request_bytes r ++ rest)))) size
     ∙ ap (λ (xs : List ℕ). fault_of (request_in limits xs)) (take_at (request_bytes r) rest (length (request_bytes r)) refl)

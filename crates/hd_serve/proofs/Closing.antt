@@ -1,5 +1,5 @@
 -- What is left when a session is closed after its requests.
-use Rattle.std.proofs.Common.{◌≡◌, IsTrue, ℕ, List, Option, Some, None, Result, Ok, Err, false, sym, subst, refl, inl}
+use Rattle.std.proofs.Common.{◌≡◌, IsTrue, ℕ, List, Option, Some, None, Result, Ok, Err, false, sym, subst, inl}
 use Rattle.std.specs.Prelude.{OnOk, IfOk, IfErr}
 use Rattle.std.specs.Result.{is_err}
 use Rattle.hd_stores.specs.Stores.{Committed, FailsCommit}

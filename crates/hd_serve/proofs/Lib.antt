@@ -6,7 +6,9 @@ mod Frames
 mod LongestKeys
 mod Apart
 mod AnswersApart
+mod ToldApart
 mod OneRequest
+mod Gathering
 mod MoreRequests
 mod Nexts
 mod SoFar

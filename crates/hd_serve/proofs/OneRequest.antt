@@ -1,5 +1,5 @@
 -- One request of a session, as it is carried out, answered in a frame and counted.
-use Rattle.std.proofs.Common.{◌≡◌, ℕ, List, [], ◌∷◌, false, IsTrue, Option, Some, None, Result, Ok, Err, ap, sym, ◌∙◌, subst, refl}
+use Rattle.std.proofs.Common.{◌≡◌, ℕ, ◌+◌, List, [], ◌∷◌, ◌++◌, drop, false, IsTrue, Option, Some, None, Result, Ok, Err, ap, sym, ◌∙◌, subst, refl}
 use Rattle.std.specs.Prelude.{unwrap_or}
 use Rattle.std.specs.Io.KnownBytes.{Appends}
 use Rattle.std.proofs.KnownBytes.{Appends-nil}
@@ -16,11 +16,13 @@ use Rattle.hd_session.specs.Turns.{Turn, IsTurnAnswered, entry_of}
 use Rattle.hd_session.proofs.Turns.{made_one}
 use Rattle.hd_deck.specs.Runs.{memory_of, memory_in}
 use Rattle.hd_serve.specs.Frames.{frame_bytes}
-use Rattle.hd_serve.specs.Answers.{done_bytes}
-use Rattle.hd_session.specs.Requests.{Request, ask, commit, DoesAll}
+use Rattle.hd_serve.specs.Answers.{done_bytes, told_bytes, in_room, TOLD_ROOM}
+use Rattle.hd_session.specs.Foretelling.{foretold, IsOnlyRead}
+use Rattle.hd_session.specs.Requests.{Request, ask, make, foretell, commit, DoesAll}
 use Rattle.hd_serve.specs.Requests.{outcome_bytes}
-use Rattle.hd_serve.specs.Serves.{answered_bytes, AreServed, ServesAll}
-use Rattle.hd_session.proofs.Requests.{IsCommitted, done_none, done_commit}
+use Rattle.hd_serve.specs.Serves.{answered_bytes, AreServed, ServesAll, GathersTold, AreAllMade, MakesAll}
+use Rattle.hd_deck.proofs.Turns.{memory_in_append}
+use Rattle.hd_session.proofs.Requests.{IsCommitted, done_none, done_commit, done_foretell, done_no_time, done_once_more}
 
 -- nothing was asked for
 pub served_none : (s : SessionState) (a : Option (List ℕ)) → s.broken ≡ false → ServesAll s [] [] a a 0 s
@@ -75,3 +77,57 @@ module _ (s t : SessionState) (whole : s.broken ≡ false) (done : IsTrue s.volu
     written = subst (λ (ts : List ℕ). Appends old new ts) (sym (append-nil (frame_bytes done_bytes))) written;
     memory = refl;
   }
+
+-- ---- what is foretold
+
+module _ (s t : SessionState) (turn : Turn) (n : ℕ) (whole : s.broken ≡ false) where
+  pub does_foretell : IsOnlyRead s t → DoesAll s (foretell turn n ∷ []) t
+  does_foretell only = λ st sound stands. ([], done_foretell s t turn n whole only st sound stands)
+
+  -- the frame of what was gathered behind its head answers it
+  pub serves_foretold : (line : List ℕ) (old new : Option (List ℕ)) → GathersTold s turn n (0 ∷ 0 ∷ 0 ∷ 0 ∷ 7 ∷ []) line t → Appends old new (frame_bytes (drop 4 line))
+      → ServesAll s (foretell turn n ∷ []) [] old new 0 t
+  serves_foretold line old new gathers written = λ st sound stands. record {
+    entries = [];
+    done = done_foretell s t turn n whole gathers.only st sound stands;
+    written = subst (λ (ts : List ℕ). Appends old new ts)
+        (ap (λ (bytes : List ℕ). frame_bytes (drop 4 bytes)) (gathers.told st sound stands)
+        ∙ sym (append-nil (frame_bytes (told_bytes (in_room TOLD_ROOM (foretold s.database.types s.pcbs st turn n))))))
+        written;
+    memory = refl;
+  }
+
+-- ---- calls that are made and not answered
+
+pub makes_no_time : (s : SessionState) (turn : Turn) → s.broken ≡ false → MakesAll s turn 0 0 s
+makes_no_time s turn whole = λ st sound stands. record { entries = []; done = done_no_time s st turn whole stands; memory = refl }
+
+module _ (s m t : SessionState) (turn : Turn) (b : Buffer) (k lacking more : ℕ) (makes : MakesAll s turn k lacking m) where
+  made_once_more : (result : Result Answer Refused) (o : Outcome) → outcome_of result b ≡ Some o → memory_of result ≡ Some (memory_in (entry_of m turn o ∷ [])) → IsTurnAnswered m turn result b t
+      → memory_of result ≡ Some more → MakesAll s turn (k + 1) (lacking + more) t
+  made_once_more result o is count answered few = λ st sound stands.
+      let p : AreAllMade s st turn k lacking m = makes st sound stands in
+      let own : more ≡ memory_in (entry_of m turn o ∷ []) = ap (λ (x : Option ℕ). unwrap_or x 0) (sym few ∙ count) in
+      record {
+        entries = p.entries ++ entry_of m turn o ∷ [];
+        done = done_once_more s m t st turn k p.entries b result o sound p.done answered is;
+        memory = ap (λ (x : ℕ). x + more) p.memory ∙ ap (λ (x : ℕ). memory_in p.entries + x) own ∙ sym (memory_in_append p.entries (entry_of m turn o ∷ []));
+      }
+
+  -- a call that came to no failed access is made
+  pub makes_once_more : (result : Result Answer Refused) → IsTurnAnswered m turn result b t → memory_of result ≡ Some more → MakesAll s turn (k + 1) (lacking + more) t
+  makes_once_more (Ok a) answered few = made_once_more (Ok a) (replied (reply_of a b)) refl refl answered few
+  makes_once_more (Err refused.Memory) answered few = made_once_more (Err refused.Memory) memory refl refl answered few
+  makes_once_more (Err refused.Full) answered few = made_once_more (Err refused.Full) full refl refl answered few
+  makes_once_more (Err refused.Device) answered few = cc
+  makes_once_more (Err refused.Broken) answered few = cc
+  makes_once_more (Err refused.Area) answered few = made_once_more (Err refused.Area) area refl refl answered few
+
+-- all of them were served, and nothing was written
+pub serves_made : (s t : SessionState) (turn : Turn) (n lacking : ℕ) (out : Option (List ℕ)) → MakesAll s turn n lacking t → ServesAll s (make turn n ∷ []) [] out out lacking t
+serves_made s t turn n lacking out makes = λ st sound stands.
+    let p : AreAllMade s st turn n lacking t = makes st sound stands in
+    record { entries = p.entries; done = p.done; written = Appends-nil out; memory = p.memory }
+
+pub does_made : (s t : SessionState) (turn : Turn) (n lacking : ℕ) → MakesAll s turn n lacking t → DoesAll s (make turn n ∷ []) t
+does_made s t turn n lacking makes = λ st sound stands. (let p : AreAllMade s st turn n lacking t = makes st sound stands in (p.entries, p.done))

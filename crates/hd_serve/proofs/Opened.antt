@@ -1,5 +1,5 @@
 -- Serving over the volume of a store's bytes.
-use Rattle.std.proofs.Common.{◌≡◌, ◌⊎◌, IsTrue, ℕ, List, Bool, Option, inr, ◌∙◌, subst}
+use Rattle.std.proofs.Common.{IsTrue, ℕ, List, Bool, Option, inr, subst}
 use Rattle.hd_dbd.specs.Types.{View}
 use Rattle.hd_dbd.specs.Hierarchy.{Database}
 use Rattle.hd_calls.specs.NoLostUpdate.{opened}
@@ -11,13 +11,14 @@ use Rattle.hd_serve.specs.declared.desk.Stop.TheVariants as stop
 use Rattle.hd_session.specs.Requests.{Request}
 use Rattle.hd_deck.specs.Commits.{Stored, IsOpenedOn}
 use Rattle.hd_serve.specs.Serves.{limits_of, AreServedOut, ServesOut, IsServedOut, LeavesAt, IsAnswered, IsWholeService, IsServeFaultOf, fault_of}
+use Rattle.hd_deck.proofs.Opened.{is_played}
 use Rattle.hd_deck.proofs.CommitsOpened.{there, is_done, carried_out, failed_behind}
 
 module _ (d : Database) (pcbs : List View) (store : Stored) (s : SessionState) (given : IsOpenedOn d pcbs store s) where
   -- those that were served were answered
   pub answered : (requests : List Request) (first : List ℕ) (old new : Option (List ℕ)) (lacking : ℕ) (left : Stored) → ServesOut s requests first old new lacking left
       → IsAnswered d pcbs store requests first old new lacking left
-  unfolding is_done
+  unfolding is_done is_played
   answered requests first old new lacking left serves =
       let over = there d pcbs store s given in
       let p : AreServedOut (session_at_start d pcbs s.volume) (opened pcbs (rows_of over.ready.placed)) requests first old new lacking left =

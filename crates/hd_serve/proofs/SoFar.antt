@@ -1,9 +1,9 @@
 -- The requests that were taken from an input and served, one after another.
 use Rattle.std.proofs.Common.{◌≡◌, ℕ, ◌+◌, ◌≤◌, List, [], ◌∷◌, ◌++◌, length, All, false, Option, Some, None, Result, Ok, Err, ap, ap₂, sym, ◌∙◌, subst, refl, arith, length-append}
-use Rattle.std.specs.Prelude.{IfOk, IfErr}
+use Rattle.std.specs.Prelude.{IfOk, IfErr, replicate}
 use Rattle.std.specs.Io.KnownBytes.{Appends, Consumes}
 use Rattle.std.proofs.KnownBytes.{Consumes-nil, Consumes-trans}
-use Rattle.std.proofs.lemmas.List.{append-nil}
+use Rattle.std.proofs.lemmas.List.{append-nil, length-replicate}
 use Rattle.std.proofs.lemmas.List.Elements.{All-nil, All-push}
 use Rattle.hd_session.specs.Opening.{SessionState}
 use Rattle.hd_session.specs.Turns.{Turn}
@@ -15,9 +15,9 @@ use Rattle.hd_serve.specs.declared.answered_calls.Count.{Count}
 use Rattle.hd_serve.specs.declared.desk.Ending.{Ending}
 use Rattle.hd_serve.specs.declared.desk.Stop.{Stop}
 use Rattle.hd_serve.specs.declared.desk.Stop.TheVariants as stop
-use Rattle.hd_session.specs.Requests.{Request, ask, commit, calls_in, DoesAll, BreaksBehind}
+use Rattle.hd_session.specs.Requests.{Request, ask, make, foretell, commit, calls_in}
 use Rattle.hd_serve.specs.Requests.{framed, frames_of}
-use Rattle.hd_serve.specs.Serves.{AreAsked, EndsBy, Ends, GoesWrong, GoesOn, ServesAll, IsServedNext, IsDoneNext, StopsNext, IsServedToTheEnd, IsDoneInPart, IsBrokenInPart, IsServedInPart, ServesUntil}
+use Rattle.hd_serve.specs.Serves.{AreAsked, EndsBy, Ends, GoesWrong, GoesOn, ServesAll, IsServedNext, IsDoneNext, StopsNext, IsServedToTheEnd, IsDoneInPart, IsServedInPart, ServesUntil}
 use Rattle.hd_serve.proofs.OneRequest.{served_none, done_nothing}
 use Rattle.hd_session.proofs.Requests.{calls_append}
 use Rattle.hd_serve.proofs.MoreRequests.{frames_append, served_both, served_then_done, served_then_broken, served_behind}
@@ -69,10 +69,12 @@ taken_more requests r a b c f g =
     subst (λ (bytes : List ℕ). Consumes a c bytes) (ap (λ (bytes : List ℕ). frames_of requests ++ bytes) (sym (append-nil frame)) ∙ sym (frames_append requests (r ∷ [])))
     (Consumes-trans a b c (frames_of requests) frame f g)
 
--- one request is one call at most
-pub one_call_more : (r : Request) (n : ℕ) → n ≡ length (calls_in (r ∷ [])) → n ≤ 1
-one_call_more (ask turn) n is = omega (arith, is)
-one_call_more commit n is = omega (arith, is)
+-- one right request is 255 calls at most
+pub calls_few : (limits : Limits) (r : Request) (n : ℕ) → RequestFits limits (framed r) → n ≡ length (calls_in (r ∷ [])) → n ≤ 255
+calls_few limits (ask turn) n fits is = omega (arith, is)
+calls_few limits (make turn k) n fits is = omega (arith, is, fits.1, length-append (replicate k turn) [], length-replicate k turn)
+calls_few limits (foretell turn k) n fits is = omega (arith, is)
+calls_few limits commit n fits is = omega (arith, is)
 
 -- one request more has its calls
 count_more : (requests : List Request) (r : Request) (calls n : ℕ) → calls ≡ length (calls_in requests) → n ≡ length (calls_in (r ∷ [])) → calls + n ≡ length (calls_in (requests ++ r ∷ []))

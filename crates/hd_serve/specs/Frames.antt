@@ -23,9 +23,12 @@ ssa_bytes ssa = to_be_bytes w16 (length ssa) ++ ssa
 abbrev pub call_bytes : Turn → List ℕ
 call_bytes c = 1 ∷ c.pcb ∷ (c.call.function ++ length c.call.ssas ∷ (flat_map ssa_bytes c.call.ssas ++ c.call.area))
 
--- the body of a request's frame: that of its call, 2 for a commit, and 3 for a roll back
+-- the body of a request's frame: of a call its own; 4 where the call is made and not answered, or 5 where it is foretold, how often in one byte, and the body
+-- of the call's frame; 2 for a commit, and 3 for a roll back
 abbrev pub request_bytes : FramedRequest → List ℕ
 request_bytes (asks.Call c) = call_bytes c
+request_bytes (asks.Make c n) = 4 ∷ n ∷ call_bytes c
+request_bytes (asks.Foretell c n) = 5 ∷ n ∷ call_bytes c
 request_bytes asks.Commit = 2 ∷ []
 request_bytes asks.RollBack = 3 ∷ []
 
@@ -39,15 +42,17 @@ pub record CallFits (limits : Limits) (c : Turn) : Type 0 where
   pub short : All (λ ssa. length ssa < 2 ^ 16) c.call.ssas
   pub fits : length c.call.area ≤ limits.area
 
--- a right request: its call is a right one; a commit and a roll back are always right
+-- a right request: its call is a right one, and how often fits into a byte; a commit and a roll back are always right
 abbrev pub RequestFits : Limits → FramedRequest → Type 0
 RequestFits limits (asks.Call c) = CallFits limits c
+RequestFits limits (asks.Make c n) = CallFits limits c × (n < 256)
+RequestFits limits (asks.Foretell c n) = CallFits limits c × (n < 256)
 RequestFits limits asks.Commit = Unit {0}
 RequestFits limits asks.RollBack = Unit {0}
 
--- more bytes than the body of a right frame has: 7, 15 arguments of 65,537 each, and the longest area
+-- more bytes than the body of a right frame has: 9, 15 arguments of 65,537 each, and the longest area
 abbrev pub is_long : Limits → ℕ → Bool
-is_long limits size = nat_lt (983062 + limits.area) size
+is_long limits size = nat_lt (983064 + limits.area) size
 
 -- ---- what is wrong
 
@@ -86,6 +91,15 @@ abbrev pub request_of_call : Result Turn FrameFault → Result FramedRequest Fra
 request_of_call (Ok c) = Ok (asks.Call c)
 request_of_call (Err e) = Err e
 
+-- the request of a call behind a kind and how often, if it was read
+abbrev pub counted : (Turn → ℕ → FramedRequest) → ℕ → Result Turn FrameFault → Result FramedRequest FrameFault
+counted request n (Ok c) = Ok (request c n)
+counted request n (Err e) = Err e
+
+-- the request that has a kind, how often, and the body of a call, or the first fault in it
+abbrev pub counted_in : (Turn → ℕ → FramedRequest) → Limits → List ℕ → Result FramedRequest FrameFault
+counted_in request limits body = counted request (slice_index body 1) (call_in limits (drop 2 body))
+
 -- the request of a kind that is all of the body
 abbrev pub alone : FramedRequest → ℕ → List ℕ → Result FramedRequest FrameFault
 alone r kind body = cond (length body == 1) (Ok r) (Err (Extra kind))
@@ -94,7 +108,9 @@ alone r kind body = cond (length body == 1) (Ok r) (Err (Extra kind))
 abbrev pub request_in : Limits → List ℕ → Result FramedRequest FrameFault
 request_in limits body =
     cond (slice_index body 0 == 2) (alone asks.Commit 2 body)
-    (cond (slice_index body 0 == 3) (alone asks.RollBack 3 body) (request_of_call (call_in limits body)))
+    (cond (slice_index body 0 == 3) (alone asks.RollBack 3 body)
+    (cond (slice_index body 0 == 4) (counted_in asks.Make limits body)
+    (cond (slice_index body 0 == 5) (counted_in asks.Foretell limits body) (request_of_call (call_in limits body)))))
 
 -- the fault, if it is one
 abbrev pub fault_of : Result FramedRequest FrameFault → Option FrameFault

@@ -44,9 +44,9 @@ abbrev pub pcb_bytes : Database → View → List ℕ
 pcb_bytes d pcb =
     d.name ++ (procopt_bytes pcb.procopt ++ (to_be_bytes w16 (length pcb.sens) ++ to_be_bytes w16 (longest_key d.types pcb)))
 
--- the body of the first frame: the mark, version 2, the number of PCBs and of types, the types, and the PCBs
+-- the body of the first frame: the mark, version 3, the number of PCBs and of types, the types, and the PCBs
 abbrev pub hello_bytes : Database → List View → List ℕ
-hello_bytes d pcbs = codes "HD" ++ (to_be_bytes w16 2 ++ length pcbs ∷ length d.types ∷ (types_bytes d.types 1 d.types ++ flat_map (pcb_bytes d) pcbs))
+hello_bytes d pcbs = codes "HD" ++ (to_be_bytes w16 3 ++ length pcbs ∷ length d.types ∷ (types_bytes d.types 1 d.types ++ flat_map (pcb_bytes d) pcbs))
 
 -- each number has room in its place
 abbrev pub field_fits : Field → Bool

@@ -6,7 +6,7 @@ use Rattle.hd_dbd.specs.Calls.{Reply}
 use Rattle.hd_serve.specs.declared.call.Limits.{Limits}
 use Rattle.hd_serve.specs.declared.request.FramedRequest.{FramedRequest}
 use Rattle.hd_serve.specs.Frames.{frame_bytes, request_bytes, RequestFits, request_in, frame_fault}
-use Rattle.hd_serve.specs.Answers.{answer_bytes, refusal_bytes, done_bytes}
+use Rattle.hd_serve.specs.Answers.{answer_bytes, refusal_bytes, done_bytes, told_bytes}
 
 -- a body is read as a request just where the request is a right one and the body is spelled so
 abbrev pub RequestsAreReadBack : Type 0
@@ -39,6 +39,16 @@ pub record CanBeTold (r : Reply) : Type 0 where
 -- replies with the same bytes are one
 abbrev pub AnswersAreToldApart : Type 0
 AnswersAreToldApart = (r s : Reply) → CanBeTold r → CanBeTold s → answer_bytes r ≡ answer_bytes s → r ≡ s
+
+-- answers that are foretold, with the same bytes, are the same; an area of 2 to the 31 bytes or more is in none
+abbrev pub ToldAnswersAreToldApart : Type 0
+ToldAnswersAreToldApart =
+    (rs ss : List Reply) → All CanBeTold rs → All CanBeTold ss → All (λ r. length r.area < 2 ^ 31) rs → All (λ r. length r.area < 2 ^ 31) ss → told_bytes rs ≡ told_bytes ss → rs ≡ ss
+
+-- what is foretold has the bytes of no answer, of no refusal, and not those of what says that a commit or a roll back is done
+abbrev pub ForetoldIsToldApart : Type 0
+ForetoldIsToldApart =
+    ((rs : List Reply) (r : Reply) → told_bytes rs ≢ answer_bytes r) × ((rs : List Reply) (e : Refused) → told_bytes rs ≢ refusal_bytes e) × ((rs : List Reply) → told_bytes rs ≢ done_bytes)
 
 -- what says that a commit or a roll back is done has the bytes of no answer and of no refusal
 abbrev pub DoneIsToldApart : Type 0

@@ -1,14 +1,16 @@
 -- What serving a program's requests comes to: the requests that came in frames, the log of their calls, what their commits made last, the answers, and
 -- what is left.
-use Rattle.std.specs.Prelude.{◌≡◌, ◌≢◌, ◌⊎◌, IsTrue, ℕ, ◌<◌, ◌≤◌, List, [], ◌∷◌, ◌++◌, length, All, Bool, true, false, Option, Some, None, Result, Ok, Err, IfSome}
+use Rattle.std.specs.Prelude.{◌≡◌, ◌≢◌, ◌⊎◌, IsTrue, ℕ, ◌≤◌, List, [], ◌∷◌, ◌++◌, length, flat_map, All, Bool, false, Option, Some, Result, Ok, Err, IfSome}
 use Rattle.std.specs.Io.KnownBytes.{Appends, Consumes, IsAtEnd, prepend_known}
 use Rattle.hd_dbd.specs.declared.answer.Refused.{Refused}
 use Rattle.hd_dbd.specs.declared.answer.Refused.TheVariants as refused
 use Rattle.hd_dbd.specs.Types.{View}
 use Rattle.hd_dbd.specs.Hierarchy.{Database, longest_path}
-use Rattle.hd_dbd.specs.Logs.{Entry, Log}
+use Rattle.hd_dbd.specs.Logs.{Entry}
+use Rattle.hd_dbd.specs.Forest.{sequence}
+use Rattle.hd_calls.specs.NoLostUpdate.{opened}
 use Rattle.hd_calls.specs.Steps.{State}
-use Rattle.hd_stores.specs.Stores.{Committed, FailsCommit}
+use Rattle.hd_stores.specs.Stores.{Committed}
 use Rattle.hd_image.specs.Holding.{volume_of}
 use Rattle.hd_update.specs.States.{Represents}
 use Rattle.hd_session.specs.declared.call_and_answer.Answer.{Answer}
@@ -16,15 +18,16 @@ use Rattle.hd_session.specs.declared.opening.OpenFault.TheVariants as opening
 use Rattle.hd_session.specs.Buffer.{Buffer}
 use Rattle.hd_session.specs.Replies.{reply_of}
 use Rattle.hd_session.specs.Opening.{SessionState, IsOpenFaultOf}
-use Rattle.hd_session.specs.Turns.{StaysWhole, AreMade}
-use Rattle.hd_session.specs.Requests.{Request, calls_in, AreDone, DoesAll, BreaksBehind, FailsIn}
-use Rattle.hd_deck.specs.Runs.{memory_in, Breaks}
+use Rattle.hd_session.specs.Turns.{Turn, IsTurnAnswered, StaysWhole}
+use Rattle.hd_session.specs.Foretelling.{foretold, IsOnlyRead}
+use Rattle.hd_session.specs.Requests.{Request, make, calls_in, AreDone, DoesAll, BreaksBehind, FailsIn}
+use Rattle.hd_deck.specs.Runs.{memory_of, memory_in, Breaks}
 use Rattle.hd_deck.specs.Commits.{Stored, stored_in, Leaves, DoesOut, BreaksOut, IsDone, IsDoneUntilFailure}
 use Rattle.hd_serve.specs.declared.call.Limits.{Limits}
 use Rattle.hd_serve.specs.declared.fault.FrameFault.{FrameFault}
 use Rattle.hd_serve.specs.declared.request.FramedRequest.TheVariants as asks
 use Rattle.hd_serve.specs.Frames.{frame_bytes, request_bytes, RequestFits, IsWrong}
-use Rattle.hd_serve.specs.Answers.{answer_bytes, refusal_bytes}
+use Rattle.hd_serve.specs.Answers.{answer_bytes, refusal_bytes, in_room, TOLD_ROOM}
 use Rattle.hd_serve.specs.Requests.{framed, frames_of, answers_to}
 use Rattle.hd_serve.specs.Hello.{hello_fits}
 use Rattle.hd_serve.specs.Services.{ServiceState}
@@ -41,6 +44,16 @@ use Rattle.hd_serve.specs.declared.service.ServeFault.TheVariants as serve
 use Rattle.hd_serve.specs.declared.service.ServeEnd.{ServeEnd}
 use Rattle.hd_serve.specs.declared.desk.Desk.{Desk}
 use Rattle.hd_serve.specs.declared.answered_calls.Count.{Count}
+
+-- ---- what is foretold
+
+-- Behind some bytes stand the frames of what a call is foretold to answer, so often at most and as far as there is room, in whatever state the session stood for;
+-- and of the session blocks were only read.
+pub record GathersTold (s : SessionState) (turn : Turn) (n : ℕ) (old new : List ℕ) (t : SessionState) : Type 0 where
+  pub only : IsOnlyRead s t
+  pub behind : (rest : List ℕ) × (new ≡ old ++ rest)
+  pub told : (st : State) → IsTrue s.volume.is_sound → Represents s.database s.volume s.kept st
+      → new ≡ old ++ flat_map (λ r. frame_bytes (answer_bytes r)) (in_room TOLD_ROOM (foretold s.database.types s.pcbs st turn n))
 
 -- ---- the input
 
@@ -81,12 +94,29 @@ GoesOn rest = Unit {0}
 pub record AreServed (s : SessionState) (st : State) (requests : List Request) (head : List ℕ) (old new : Option (List ℕ)) (lacking : ℕ) (t : SessionState) : Type 0 where
   pub entries : List (Entry (List ℕ))
   pub done : AreDone s st requests entries t
-  pub written : Appends old new (head ++ answers_to requests entries)
+  pub written : Appends old new (head ++ answers_to s.database.types s.pcbs st requests entries)
   pub memory : lacking ≡ memory_in entries
 
 -- whatever state the session stood for, the requests were served from it
 abbrev pub ServesAll : SessionState → List Request → List ℕ → Option (List ℕ) → Option (List ℕ) → ℕ → SessionState → Type 0
 ServesAll s requests head old new lacking t = (st : State) → IsTrue s.volume.is_sound → Represents s.database s.volume s.kept st → AreServed s st requests head old new lacking t
+
+-- A call was made, and it came to no failed access; so many calls, 0 or 1, found no memory.
+pub record IsMadeOnce (s : SessionState) (turn : Turn) (lacking : ℕ) (t : SessionState) : Type 0 where
+  pub result : Result Answer Refused
+  pub bytes : Buffer
+  pub answered : IsTurnAnswered s turn result bytes t
+  pub memory : memory_of result ≡ Some lacking
+
+-- A call was made so often, and so many of the calls found no memory.
+pub record AreAllMade (s : SessionState) (st : State) (turn : Turn) (n lacking : ℕ) (t : SessionState) : Type 0 where
+  pub entries : List (Entry (List ℕ))
+  pub done : AreDone s st (make turn n ∷ []) entries t
+  pub memory : lacking ≡ memory_in entries
+
+-- whatever state the session stood for, the call was made so often from it
+abbrev pub MakesAll : SessionState → Turn → ℕ → ℕ → SessionState → Type 0
+MakesAll s turn n lacking t = (st : State) → IsTrue s.volume.is_sound → Represents s.database s.volume s.kept st → AreAllMade s st turn n lacking t
 
 -- what a halt at a request says of it: it was carried out, where its answer was not written; where an access failed, what a crash leaves
 abbrev pub HaltsAt : SessionState → Request → Halt → SessionState → Type 0
@@ -212,7 +242,7 @@ LeavesAt limits s input head old new (stop.Frame e) left = IsServedOutUntil limi
 -- The requests were carried out, and behind the first frame the answers were written that their log gives; so many of the calls found no memory.
 pub record IsAnswered (d : Database) (pcbs : List View) (store : Stored) (requests : List Request) (first : List ℕ) (old new : Option (List ℕ)) (lacking : ℕ) (left : Stored) : Type 0 where
   pub done : IsDone d pcbs store requests left
-  pub written : Appends old new (first ++ answers_to requests done.log.entries)
+  pub written : Appends old new (first ++ answers_to d.types pcbs (opened pcbs (sequence done.played.forest)) requests done.log.entries)
   pub memory : lacking ≡ memory_in done.log.entries
 
 -- Serving went on to the end of the session: up to there the input was the frames of requests, and over a sound store all of them were answered; how many

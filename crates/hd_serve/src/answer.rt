@@ -1,5 +1,4 @@
-ghost use Rattle.std.specs.Prelude.{◌≡◌, ◌<◌, ◌^◌, unwrap_or, replicate, length, OnOk};
-ghost use Rattle.std.specs.Int.{w32, to_be_bytes};
+ghost use Rattle.std.specs.Prelude.{◌≡◌, ◌<◌, ◌^◌, ◌++◌, unwrap_or, replicate, length, OnOk};
 ghost use Rattle.std.specs.Io.KnownBytes.{Appends};
 ghost use Rattle.hd_serve.specs.Frames.{frame_bytes};
 ghost use Rattle.hd_dbd.specs.Statuses.{status_text};
@@ -31,7 +30,7 @@ fn refused_number(refused: Refused) -> u8
 }
 
 /// A segment's name, and blanks where there is none.
-fn segment_text(segment: &Option<Name8>) -> &[u8]
+pub(crate) fn segment_text(segment: &Option<Name8>) -> &[u8]
     ensures text { result.now ≡ unwrap_or segment.now (replicate 8 32) }
     ensures len { length result.now ≡ 8 }
 {
@@ -41,16 +40,8 @@ fn segment_text(segment: &Option<Name8>) -> &[u8]
     }
 }
 
-/// Begins a frame whose body has so many bytes.
-fn begin_frame(line: &mut Vec<u8>, size: u32) -> Result<(), AllocError>
-    ensures { OnOk result (line.new.items ≡ to_be_bytes w32 size) }
-{
-    line.clear();
-    line.extend_from_slice(&size.to_be_bytes())
-}
-
-/// The frame of an answer, in place of what stood in the line.
-fn fill_answer(
+/// Adds the frame of an answer to what stands in the line.
+pub(crate) fn push_answer(
     line: &mut Vec<u8>,
     status: Status,
     level: u8,
@@ -58,7 +49,7 @@ fn fill_answer(
     key: &[u8],
     area: &[u8],
 ) -> Result<(), WriteFault>
-    ensures { OnOk result (line.new.items ≡ frame_bytes (answer_bytes (record { status = status; level = level; segment = segment.now; key = key.now; area = area.now }))) }
+    ensures { OnOk result (line.new.items ≡ line.old.items ++ frame_bytes (answer_bytes (record { status = status; level = level; segment = segment.now; key = key.now; area = area.now }))) }
 {
     let (Ok(key_length), Ok(area_length)) = (u16::try_from(key.len()), u32::try_from(area.len()))
     else {
@@ -67,7 +58,7 @@ fn fill_answer(
     let Some(size) = area_length.checked_add(14 + u32::from(key_length)) else {
         return Err(WriteFault);
     };
-    begin_frame(line, size)?;
+    line.extend_from_slice(&size.to_be_bytes())?;
     line.extend_from_slice(&[0])?;
     line.extend_from_slice(status_text(status))?;
     line.extend_from_slice(&[level])?;
@@ -92,7 +83,8 @@ pub fn put_answer<W: Write>(
     ensures { OnOk result (Appends (W.contents out.old) (W.contents out.new)
         (frame_bytes (answer_bytes (record { status = status; level = level; segment = segment.now; key = key.now; area = area.now })))) }
 {
-    fill_answer(line, status, level, segment, key, area)?;
+    line.clear();
+    push_answer(line, status, level, segment, key, area)?;
     put_frame(out, line)
 }
 

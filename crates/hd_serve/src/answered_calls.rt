@@ -30,7 +30,7 @@ pub(crate) enum Halt {
 }
 
 /// How many calls, 0 or 1, found no memory by what a call answered; `None` where an access failed.
-fn memory_of(answered: &Result<Answer, Refused>) -> Option<u64>
+pub(crate) fn memory_of(answered: &Result<Answer, Refused>) -> Option<u64>
     ensures { result ≡ memory_of answered.now }
 {
     match answered {

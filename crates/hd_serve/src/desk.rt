@@ -7,12 +7,17 @@ use crate::answered_calls::{Count, Halt, answer_framed};
 use crate::call::Limits;
 use crate::commits::answer_commit;
 use crate::fault::FrameFault;
+use crate::foretold::answer_foretold;
 use crate::input::FrameBuffer;
+use crate::made_calls::make_framed;
 use crate::output::put_frame;
 use crate::request::FramedRequest;
 use hd_session::{IoArea, Session};
 use hd_stores::CommitStore;
 use std::io::{Read, Write};
+
+/// How many requests a session has at most: each is 255 calls at most, and all calls are counted.
+const REQUESTS: u64 = u64::MAX / 255;
 
 /// Why the requests of a session end before it does: an access of the store failed, a frame was not written, or a frame is no right one.
 #[derive(Clone, Copy, Debug, Drop, PartialEq, Eq)]
@@ -87,6 +92,17 @@ fn serve_next<S: CommitStore, I: Read, W: Write>(
             &mut desk.line,
             out,
         )),
+        FramedRequest::Make(call, count) => {
+            next_of(make_framed(session, call, count, &mut desk.io, out))
+        }
+        FramedRequest::Foretell(call, count) => next_of(answer_foretold(
+            session,
+            call,
+            count,
+            &mut desk.io,
+            &mut desk.line,
+            out,
+        )),
         FramedRequest::Commit => next_of(answer_commit(session, out)),
         FramedRequest::RollBack => Ok(Next::Ends(Ending::RollBack)),
     }
@@ -110,7 +126,7 @@ fn serve_requests<S: CommitStore, I: Read, W: Write>(
 {
     let mut calls = 0u64;
     let mut memory = 0u64;
-    'requests: for _ in 0..u64::MAX {
+    'requests: for _ in 0..REQUESTS {
         match serve_next(session, desk, input, out)? {
             Next::Served(count) => {
                 calls += count.calls;

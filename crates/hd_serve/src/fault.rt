@@ -17,7 +17,7 @@ pub enum FrameFault {
     Short,
     /// A commit's or a roll back's body, which has this kind, goes on behind it.
     Extra(u8),
-    /// The first byte of a body is not that of a request.
+    /// The first byte of a body, or of the body of a call in it, is none that may stand there.
     Kind(u8),
     /// The program has no PCB of this number.
     Pcb(u8),

@@ -230,11 +230,11 @@ fn push_pcbs(
 
 /// Adds the mark, the version, and how many PCBs and types follow.
 fn push_head(bytes: &mut Vec<u8>, pcbs: usize, types: usize) -> Result<(), HelloFault>
-    ensures bytes { OnOk result (bytes.new.items ≡ bytes.old.items ++ (72 ∷ 68 ∷ 0 ∷ 2 ∷ pcbs ∷ types ∷ [])) }
+    ensures bytes { OnOk result (bytes.new.items ≡ bytes.old.items ++ (72 ∷ 68 ∷ 0 ∷ 3 ∷ pcbs ∷ types ∷ [])) }
     ensures fits { OnOk result ((pcbs < 256) × (types < 256)) }
     ensures large { IfErr result (λ e. e ≡ HelloFault.Large → (256 ≤ pcbs) ⊎ (256 ≤ types)) }
 {
-    bytes.extend_from_slice(&[b'H', b'D', 0, 2])?;
+    bytes.extend_from_slice(&[b'H', b'D', 0, 3])?;
     push_u8(bytes, pcbs)?;
     push_u8(bytes, types)
 }

@@ -16,8 +16,8 @@ const PIECE: usize = 65_536;
 /// How many reads of the system may go to one frame, those that were interrupted among them.
 const READS: u32 = 16_777_216;
 
-/// The bytes of all frames of a right call but its area: kind, PCB, function and count, and 15 arguments of 65,535 bytes.
-const FIXED: usize = 983_062;
+/// The bytes of the longest right frame's body but its area: kind, how often, and of its call kind, PCB, function and count, and 15 arguments of 65,535 bytes.
+const FIXED: usize = 983_064;
 
 /// What was read from an input and has not been taken as frames yet.
 #[derive(Drop)]

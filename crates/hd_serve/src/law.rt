@@ -1,4 +1,4 @@
-ghost use Rattle.hd_serve.specs.Laws.{RequestsAreReadBack, FramesAreToldApart, FramesSpellOneRequest, AnswersAreToldApart, DoneIsToldApart};
+ghost use Rattle.hd_serve.specs.Laws.{ToldAnswersAreToldApart, ForetoldIsToldApart, RequestsAreReadBack, FramesAreToldApart, FramesSpellOneRequest, AnswersAreToldApart, DoneIsToldApart};
 
 /// Reading and writing a request are inverse: what is read from a body is a right request, and the body is spelled as it is; and each right
 /// request is read from its own spelling.
@@ -19,6 +19,16 @@ pub fn law_frames_spell_one_request()
 /// Two answers that have the same bytes are one: whoever reads a frame knows status, level, segment, key and area.
 pub fn law_answers_are_told_apart()
     ensures { AnswersAreToldApart }
+{}
+
+/// Answers that are foretold, in a frame with the same bytes, are the same answers.
+pub fn law_told_answers_are_told_apart()
+    ensures { ToldAnswersAreToldApart }
+{}
+
+/// What is foretold is no answer, no refusal, and not what says that a commit or a roll back is done.
+pub fn law_foretold_is_told_apart()
+    ensures { ForetoldIsToldApart }
 {}
 
 /// What says that a commit or a roll back is done is no answer and no refusal.

@@ -10,8 +10,10 @@ ghost use Rattle.hd_deck.specs.Commits.{stored_in};
 ghost use Rattle.hd_serve.specs.Serves.{limits_of, IsBeforeCalls, NoService, fault_of, fault_refusal, LeavesAt, IsServiceFor, unread, ServesOutFrom, ServesOver, ServesUntilFault};
 
 use crate::answer::DONE;
+use crate::call::Limits;
 use crate::desk::{Desk, Ending, Stop, serve_all};
 use crate::fault::{FrameFault, HelloFault};
+use crate::foretold::{TOLD_HEAD, TOLD_ROOM};
 use crate::hello::{hello_frame, limits_of};
 use crate::input::FrameBuffer;
 use hd_dbd::{Dbd, Psb, Refused};
@@ -80,6 +82,14 @@ fn fault_of(stop: Stop) -> ServeFault
 /// The bytes of an answer's frame beside its area: its length, 14 bytes, and a key of 255 bytes on each of 15 levels, and of one more.
 const ANSWER: usize = 4_098;
 
+/// The bytes of the longest frame of an answer, or of what is foretold.
+fn line_room(limits: Limits) -> usize {
+    limits
+        .area
+        .saturating_add(ANSWER)
+        .max(TOLD_HEAD.len() + TOLD_ROOM)
+}
+
 /// What is kept from request to request, before the first.
 fn new_desk(alloc: Global, dbd: &Dbd, psb: &Psb) -> Result<Desk, AllocError>
     ensures buffer { IfOk result (λ k. k.buffer ≡ []) }
@@ -91,7 +101,7 @@ fn new_desk(alloc: Global, dbd: &Dbd, psb: &Psb) -> Result<Desk, AllocError>
         buffer: FrameBuffer::new(alloc)?,
         limits,
         io: IoArea::new(alloc, dbd)?,
-        line: Vec::with_capacity(alloc, limits.area.saturating_add(ANSWER))?,
+        line: Vec::with_capacity(alloc, line_room(limits))?,
     })
 }
 

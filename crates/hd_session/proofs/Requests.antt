@@ -1,14 +1,21 @@
 -- Requests of a session one after another, and the images that their commits make last.
-use Rattle.std.proofs.Common.{◌≡◌, ℕ, List, [], ◌∷◌, ◌++◌, length, IsTrue, false, ap, sym, ◌∙◌, subst, refl, arith}
-use Rattle.hd_dbd.specs.Logs.{Entry}
+use Rattle.std.proofs.Common.{◌≡◌, ℕ, ◌+◌, List, [], ◌∷◌, ◌++◌, length, drop, IsTrue, false, Some, Result, ap, sym, ◌∙◌, subst, refl, arith, append_assoc, length-append}
+use Rattle.std.specs.Prelude.{replicate}
+use Rattle.std.proofs.lemmas.List.{append-nil, drop-append-le, length-drop, length-replicate, replicate_more}
+use Rattle.hd_dbd.specs.declared.answer.Refused.{Refused}
+use Rattle.hd_dbd.specs.Logs.{Outcome, Entry}
 use Rattle.hd_calls.specs.Steps.{State}
 use Rattle.hd_calls.specs.Runs.{last_state, image_at}
 use Rattle.hd_stores.specs.Stores.{Commit, Committed, commits_of}
 use Rattle.hd_update.specs.States.{Represents}
 use Rattle.hd_session.specs.Opening.{SessionState}
-use Rattle.hd_session.specs.Turns.{Turn, IsFlushed, AreMade}
-use Rattle.hd_session.specs.Requests.{Request, ask, commit, calls_in, committed_by, Lasts, AreDone}
-use Rattle.hd_session.proofs.Turns.{made_none, made_flushed, made_both, entries_count, image_at_append}
+use Rattle.hd_session.specs.declared.call_and_answer.Answer.{Answer}
+use Rattle.hd_session.specs.Buffer.{Buffer}
+use Rattle.hd_session.specs.Logged.{outcome_of}
+use Rattle.hd_session.specs.Turns.{Turn, IsTurnAnswered, IsFlushed, AreMade, entry_of}
+use Rattle.hd_session.specs.Foretelling.{IsOnlyRead}
+use Rattle.hd_session.specs.Requests.{Request, ask, make, foretell, commit, calls_in, committed_by, Lasts, AreDone}
+use Rattle.hd_session.proofs.Turns.{made_none, made_one, made_read, made_flushed, made_both, stands_after, entries_count, image_at_append}
 
 -- ---- some requests, and then others
 
@@ -16,7 +23,18 @@ use Rattle.hd_session.proofs.Turns.{made_none, made_flushed, made_both, entries_
 pub calls_append : (xs ys : List Request) → calls_in (xs ++ ys) ≡ calls_in xs ++ calls_in ys
 calls_append [] ys = refl
 calls_append (ask turn ∷ xs) ys = ap (λ (ts : List Turn). turn ∷ ts) (calls_append xs ys)
+calls_append (make turn n ∷ xs) ys =
+    ap (λ (ts : List Turn). replicate n turn ++ ts) (calls_append xs ys) ∙ sym (append_assoc (replicate n turn) (calls_in xs) (calls_in ys))
+calls_append (foretell turn n ∷ xs) ys = calls_append xs ys
 calls_append (commit ∷ xs) ys = calls_append xs ys
+
+-- as many entries as there are calls have those of the calls that are made first
+pub made_first : {I : Type 0} (turn : Turn) (n : ℕ) (xs : List Request) (es fs : List (Entry I)) → length es ≡ length (calls_in (make turn n ∷ xs))
+    → (drop n (es ++ fs) ≡ drop n es ++ fs) × (length (drop n es) ≡ length (calls_in xs))
+made_first turn n xs es fs same =
+    let many : length es ≡ n + length (calls_in xs) =
+    same ∙ length-append (replicate n turn) (calls_in xs) ∙ ap (λ (k : ℕ). k + length (calls_in xs)) (length-replicate n turn) in
+    (drop-append-le n es fs (omega (arith, many)), omega (arith, length-drop n es, many))
 
 -- the images that the commits found among some requests and then others
 pub committed_append : {I : Type 0} (xs ys : List Request) (es fs : List (Entry I)) (middle last : I) → length es ≡ length (calls_in xs) → image_at fs last ≡ middle
@@ -25,6 +43,10 @@ committed_append [] ys [] fs middle last same is = refl
 committed_append [] ys (e ∷ es) fs middle last same is = absurd (omega (arith, same))
 committed_append (ask turn ∷ xs) ys [] fs middle last same is = absurd (omega (arith, same))
 committed_append (ask turn ∷ xs) ys (e ∷ es) fs middle last same is = committed_append xs ys es fs middle last (omega (arith, same)) is
+committed_append {I} (make turn n ∷ xs) ys es fs middle last same is =
+    let first = made_first turn n xs es fs same in
+    ap (λ (gs : List (Entry I)). committed_by (xs ++ ys) gs last) first.0 ∙ committed_append xs ys (drop n es) fs middle last first.1 is
+committed_append (foretell turn n ∷ xs) ys es fs middle last same is = committed_append xs ys es fs middle last same is
 committed_append {I} (commit ∷ xs) ys es fs middle last same is =
     ap (λ (i : I). i ∷ committed_by (xs ++ ys) (es ++ fs) last) (image_at_append es fs middle last is)
     ∙ ap (λ (images : List I). image_at es middle ∷ images) (committed_append xs ys es fs middle last same is)
@@ -69,3 +91,27 @@ pub done_commit : (s t : SessionState) → s.broken ≡ false → (IsTrue s.volu
     → AreDone s st (commit ∷ []) [] t
 done_commit s t whole done st sound stands =
     record { made = made_flushed s s t st [] [] (made_none s st whole stands) (done sound).flushed; lasts = one_lasts s.volume.committed t.volume.committed t.volume.image (done sound).lasts }
+
+-- ---- what is foretold, and calls that are made again and again
+
+-- what is foretold makes no call
+pub done_foretell : (s t : SessionState) (turn : Turn) (n : ℕ) → s.broken ≡ false → IsOnlyRead s t → (st : State) → IsTrue s.volume.is_sound → Represents s.database s.volume s.kept st
+    → AreDone s st (foretell turn n ∷ []) [] t
+done_foretell s t turn n whole only st sound stands = record { made = made_read s t st whole only sound stands; lasts = only.committed }
+
+-- a call is made no time
+pub done_no_time : (s : SessionState) (st : State) (turn : Turn) → s.broken ≡ false → Represents s.database s.volume s.kept st → AreDone s st (make turn 0 ∷ []) [] s
+done_no_time s st turn whole stands = record { made = made_none s st whole stands; lasts = refl }
+
+once_more : {A : Type 0} (k : ℕ) (x : A) → (replicate k x ++ []) ++ x ∷ [] ≡ replicate (k + 1) x ++ []
+once_more {A} k x = ap (λ (xs : List A). xs ++ x ∷ []) (append-nil (replicate k x)) ∙ replicate_more k x ∙ sym (append-nil (replicate (k + 1) x))
+
+-- a call was made so often, and then once more
+pub done_once_more : (s m t : SessionState) (st : State) (turn : Turn) (k : ℕ) (es : List (Entry (List ℕ))) (io : Buffer) (result : Result Answer Refused) (o : Outcome) → IsTrue s.volume.is_sound
+    → AreDone s st (make turn k ∷ []) es m → IsTurnAnswered m turn result io t → outcome_of result io ≡ Some o → AreDone s st (make turn (k + 1) ∷ []) (es ++ entry_of m turn o ∷ []) t
+done_once_more s m t st turn k es io result o sound done answered comes = record {
+  made = subst (λ (ts : List Turn). AreMade s st ts (es ++ entry_of m turn o ∷ []) t) (once_more k turn)
+      (made_both s m t st (replicate k turn ++ []) (turn ∷ []) es (entry_of m turn o ∷ []) done.made
+      (made_one m t turn io (last_state s.database.types s.pcbs st es) result o (rw done.made.whole.sound sound) (stands_after s m st (replicate k turn ++ []) es done.made) answered comes));
+  lasts = answered.call.committed ∙ done.lasts;
+}

@@ -22,6 +22,7 @@ use Rattle.hd_session.specs.declared.call_and_answer.Answer.{Answer}
 use Rattle.hd_session.specs.Buffer.{Buffer}
 use Rattle.hd_session.specs.Opening.{SessionState, session_at_start}
 use Rattle.hd_session.specs.Logged.{outcome_of, IsLogged}
+use Rattle.hd_session.specs.Foretelling.{IsOnlyRead}
 use Rattle.hd_session.specs.Turns.{Turn, turns_in, LackMemoryFairly, StaysWhole, IsTurnAnswered, IsFlushed, AreMade, entry_of}
 use Rattle.hd_session.specs.Laws.{IsOpened, IsLegalLogOf, SessionsAnswer}
 
@@ -119,7 +120,7 @@ module _ {I : Type 0} where
   turns_in_append [] ys = refl
   turns_in_append (x ∷ xs) ys = ap (λ (ts : List Turn). record { pcb = x.pcb; call = x.call } ∷ ts) (turns_in_append xs ys)
 
-  last_state_append : (types : List SegmentType) (pcbs : List View) (st : State) (xs ys : List (Entry I))
+  pub last_state_append : (types : List SegmentType) (pcbs : List View) (st : State) (xs ys : List (Entry I))
       → last_state types pcbs st (xs ++ ys) ≡ last_state types pcbs (last_state types pcbs st xs) ys
   last_state_append types pcbs st [] ys = refl
   last_state_append types pcbs st (x ∷ xs) ys = last_state_append types pcbs (next_state types pcbs st x) xs ys
@@ -195,7 +196,7 @@ same_image : (images : Images (List ℕ)) (types : List SegmentType) (pcbs : Lis
 same_image images types pcbs st es old new is follows = subst (λ (i : List ℕ). ImagesFollow images types pcbs st es i) (sym is) follows
 
 -- a volume of an equal image stands for the same state
-represents_same : (d : Database) (v w : VolumeState) (kept : List Kept) (st : State) → w.image ≡ v.image → w.size ≡ v.size → w.sizes ≡ v.sizes → Represents d v kept st → Represents d w kept st
+pub represents_same : (d : Database) (v w : VolumeState) (kept : List Kept) (st : State) → w.image ≡ v.image → w.size ≡ v.size → w.sizes ≡ v.sizes → Represents d v kept st → Represents d w kept st
 represents_same d v w kept st image size sizes R = record {
   later = subst (λ (i : List ℕ). (header_of i).version ≢ 1) (sym image) R.later;
   placed = R.placed;
@@ -225,6 +226,30 @@ made_flushed s m t st turns es made flushed =
         sound = flushed.sound;
         size = flushed.sizes.0;
       });
+    }
+
+-- of a session blocks were read, and no call was made
+pub made_read : (s t : SessionState) (st : State) → s.broken ≡ false → IsOnlyRead s t → IsTrue s.volume.is_sound → Represents s.database s.volume s.kept st → AreMade s st [] [] t
+made_read s t st whole only sound stands =
+    let image : t.volume.image ≡ s.volume.image = only.read sound in
+    let still : Represents s.database t.volume t.kept st =
+    subst (λ (ks : List Kept). Represents s.database t.volume ks st) (sym (ap (λ (x : SessionState). x.kept) only.same))
+    (represents_same s.database s.volume t.volume s.kept st image only.sizes.0 only.sizes.1 stands) in
+    record {
+      asked = refl;
+      begins = image;
+      runs = tt;
+      follows = holds_state s.database t.volume t.kept st still;
+      lacking = tt;
+      represents = still;
+      whole = record {
+        database = ap (λ (x : SessionState). x.database) only.same;
+        pcbs = ap (λ (x : SessionState). x.pcbs) only.same;
+        whole = ap (λ (x : SessionState). x.broken) only.same;
+        failures = only.failures;
+        sound = only.sound;
+        size = only.sizes.0;
+      };
     }
 
 -- there are as many entries as calls

@@ -1,10 +1,10 @@
 -- What the logs of sessions keep to.
-use Rattle.std.specs.Prelude.{◌≡◌, ℕ, List, [], ◌∷◌, ◌++◌, true, false, IsTrue, Some, Result, Ok}
+use Rattle.std.specs.Prelude.{◌≡◌, ℕ, List, [], ◌∷◌, ◌++◌, ◌≤◌, length, take, map, replicate, true, false, IsTrue, Some, Result, Ok}
 use Rattle.hd_dbd.specs.Types.{View}
 use Rattle.hd_dbd.specs.declared.answer.Refused.{Refused}
 use Rattle.hd_dbd.specs.Hierarchy.{Database}
 use Rattle.hd_dbd.specs.Segment.{Segment}
-use Rattle.hd_dbd.specs.Logs.{Outcome, Entry, Log}
+use Rattle.hd_dbd.specs.Logs.{Outcome, replied, Entry, Log}
 use Rattle.hd_calls.specs.Runs.{IsLegalLog}
 use Rattle.hd_calls.specs.Steps.{State}
 use Rattle.hd_calls.specs.Tags.{Moment, moments, tagged_at_start}
@@ -17,6 +17,7 @@ use Rattle.hd_session.specs.declared.call_and_answer.Answer.{Answer}
 use Rattle.hd_session.specs.Buffer.{Buffer}
 use Rattle.hd_session.specs.Opening.{SessionState, session_at_start, IsOpenedOver, IsOpenRead}
 use Rattle.hd_session.specs.Logged.{outcome_of}
+use Rattle.hd_session.specs.Foretelling.{foretold}
 use Rattle.hd_session.specs.Turns.{Turn, turns_in, LackMemoryFairly, IsTurnAnswered, IsFlushed, AreMade, entry_of}
 
 -- ---- no update is lost
@@ -84,3 +85,12 @@ pub record SessionsAnswer (d : Database) : Type 0 where
 -- it holds of every database
 abbrev pub SessionsAnswerTheirLogs : Type 0
 SessionsAnswerTheirLogs = (d : Database) → SessionsAnswer d
+
+-- ---- foretelling
+
+-- a call that is made so often in a session, from a state on that has a position of its PCB, is answered as it is foretold there, as far as that goes
+abbrev pub ForetoldAnswersComeTrue : Type 0
+ForetoldAnswersComeTrue =
+    (s t : SessionState) (st : State) (turn : Turn) (n k : ℕ) (entries : List (Entry (List ℕ)))
+    → turn.pcb ≤ length st.positions → AreMade s st (replicate k turn) entries t
+    → take (length (foretold s.database.types s.pcbs st turn n)) (map (λ e. e.outcome) entries) ≡ take k (map (λ r. replied r) (foretold s.database.types s.pcbs st turn n))

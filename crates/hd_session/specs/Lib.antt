@@ -10,5 +10,6 @@ pub mod Inserts
 pub mod Opening
 pub mod Logged
 pub mod Turns
+pub mod Foretelling
 pub mod Requests
 pub mod Laws

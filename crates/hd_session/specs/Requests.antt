@@ -1,5 +1,5 @@
 -- What a program asks for in a session, calls with commits among them, and what lasts by what its calls came to.
-use Rattle.std.specs.Prelude.{◌≡◌, List, [], ◌∷◌, ℕ, IsTrue}
+use Rattle.std.specs.Prelude.{◌≡◌, List, [], ◌∷◌, ◌++◌, ℕ, drop, replicate, IsTrue}
 use Rattle.hd_dbd.specs.Logs.{Entry}
 use Rattle.hd_calls.specs.Runs.{image_at}
 use Rattle.hd_calls.specs.Steps.{State}
@@ -8,15 +8,20 @@ use Rattle.hd_update.specs.States.{Represents}
 use Rattle.hd_session.specs.Opening.{SessionState}
 use Rattle.hd_session.specs.Turns.{Turn, AreMade}
 
--- What a program asks for while its session goes on: a call, or that what the calls so far changed is to last.
+-- What a program asks for while its session goes on: a call; a call that is made so often and not answered; what a call would answer now and then again, so often at most; or
+-- that what the calls so far changed is to last.
 pub data Request : Type 0 where
   ask : Turn → Request
+  make : Turn → ℕ → Request
+  foretell : Turn → ℕ → Request
   commit : Request
 
 -- the calls among requests
 abbrev pub calls_in : List Request → List Turn
 calls_in [] = []
 calls_in (ask turn ∷ requests) = turn ∷ calls_in requests
+calls_in (make turn n ∷ requests) = replicate n turn ++ calls_in requests
+calls_in (foretell turn n ∷ requests) = calls_in requests
 calls_in (commit ∷ requests) = calls_in requests
 
 -- The images that the commits among requests found, in their order. Their calls came to these entries, and left the last image: a commit found the image
@@ -25,6 +30,8 @@ abbrev pub committed_by : {Image : Type 0} → List Request → List (Entry Imag
 committed_by [] entries last = []
 committed_by (ask turn ∷ requests) [] last = []
 committed_by (ask turn ∷ requests) (e ∷ entries) last = committed_by requests entries last
+committed_by (make turn n ∷ requests) entries last = committed_by requests (drop n entries) last
+committed_by (foretell turn n ∷ requests) entries last = committed_by requests entries last
 committed_by (commit ∷ requests) entries last = image_at entries last ∷ committed_by requests entries last
 
 -- commits made these images last, one behind the other; where there was none, a crash leaves what it would have left before

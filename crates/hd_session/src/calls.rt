@@ -1,7 +1,8 @@
 ghost use Rattle.std.specs.Prelude.{◌≡◌, ◌≢◌, ◌<◌, ◌≤◌, Ok, Some, length, true, IsTrue, IfOk, IfErr};
 ghost use Rattle.hd_dbd.specs.Facts.{stored_sizes};
 ghost use Rattle.hd_dbd.specs.Hierarchy.{longest_path};
-ghost use Rattle.hd_volume.specs.Calls.{IsCall};
+ghost use Rattle.hd_dbd.specs.Refusals.{OnlyDevice};
+ghost use Rattle.hd_volume.specs.Calls.{IsCall, IsRead};
 ghost use Rattle.hd_calls.specs.Access.{loads};
 ghost use Rattle.hd_calls.specs.Functions.{function_of};
 ghost use Rattle.hd_calls.specs.Ssas.{resolve};
@@ -13,6 +14,7 @@ ghost use Rattle.hd_dbd.specs.Calls.{bare};
 ghost use Rattle.hd_session.specs.Replies.{reply_of};
 ghost use Rattle.hd_session.specs.Giving.{IsEmpty};
 ghost use Rattle.hd_session.specs.Above.{AreKeysOf};
+ghost use Rattle.hd_session.specs.Foretelling.{is_get, is_get_call};
 ghost use Rattle.hd_session.specs.Inserts.{AreArgumentsOf};
 ghost use Rattle.hd_session.specs.Sessions.{IsStepDone, IsUndoneUnlessDevice, IsRoomLacking, IsMemoryLacking, own_in, call_in, IfFewNoInsert};
 
@@ -116,6 +118,8 @@ fn answer_accepted<S: BlockStore>(
     ensures refusal { IfErr result (λ e. e ≢ Refused.Broken) }
     ensures memory { accepted.now.function ≢ Function.Insert → IfErr result (λ e. IsMemoryLacking dbd.now volume.old positions.old (own_in dbd.now pcb.now number call.now.area accepted.now) e) }
     ensures never { accepted.now.function ≢ Function.Insert → accepted.now.function ≢ Function.Replace → IfErr result (λ e. e ≢ Refused.Memory) }
+    ensures reads { is_get accepted.now.function ≡ true → IsRead volume.old result volume.new }
+    ensures refuses { is_get accepted.now.function ≡ true → OnlyDevice result }
     ensures empty { IfErr result (λ _. IsEmpty io.new) }
     ensures same_room { io.new.room ≡ io.old.room }
     ensures many { length positions.new ≡ length positions.old }
@@ -178,6 +182,8 @@ fn answer_tested<S: BlockStore>(
     ensures refusal { IfErr result (λ e. e ≢ Refused.Broken) }
     ensures memory { IfFewNoInsert call.now (IfErr result (λ e. IsMemoryLacking dbd.now volume.old positions.old (call_in dbd.now pcb.now number call.now) e)) }
     ensures never { function_of call.now.function ≢ Some Function.Insert → function_of call.now.function ≢ Some Function.Replace → length call.now.ssas ≤ 4 → IfErr result (λ e. e ≢ Refused.Memory) }
+    ensures reads { is_get function ≡ true → IsRead volume.old result volume.new }
+    ensures refuses { is_get function ≡ true → OnlyDevice result }
     ensures empty { IfErr result (λ _. IsEmpty io.new) }
     ensures same_room { io.new.room ≡ io.old.room }
     ensures many { length positions.new ≡ length positions.old }
@@ -225,6 +231,8 @@ fn answer_named<S: BlockStore>(
     ensures refusal { IfErr result (λ e. e ≢ Refused.Broken) }
     ensures memory { IfFewNoInsert call.now (IfErr result (λ e. IsMemoryLacking dbd.now volume.old positions.old (call_in dbd.now pcb.now number call.now) e)) }
     ensures never { function_of call.now.function ≢ Some Function.Insert → function_of call.now.function ≢ Some Function.Replace → length call.now.ssas ≤ 4 → IfErr result (λ e. e ≢ Refused.Memory) }
+    ensures reads { is_get function ≡ true → IsRead volume.old result volume.new }
+    ensures refuses { is_get function ≡ true → length call.now.ssas ≤ 4 → OnlyDevice result }
     ensures empty { IfErr result (λ _. IsEmpty io.new) }
     ensures same_room { io.new.room ≡ io.old.room }
     ensures many { length positions.new ≡ length positions.old }
@@ -272,6 +280,8 @@ pub fn call_step<S: BlockStore>(
     ensures refusal { IfErr result (λ e. e ≢ Refused.Broken) }
     ensures memory { IfFewNoInsert call.now (IfErr result (λ e. IsMemoryLacking dbd.now volume.old positions.old (call_in dbd.now pcb.now number call.now) e)) }
     ensures never { function_of call.now.function ≢ Some Function.Insert → function_of call.now.function ≢ Some Function.Replace → length call.now.ssas ≤ 4 → IfErr result (λ e. e ≢ Refused.Memory) }
+    ensures reads { is_get_call call.now ≡ true → IsRead volume.old result volume.new }
+    ensures refuses { is_get_call call.now ≡ true → length call.now.ssas ≤ 4 → OnlyDevice result }
     ensures empty { IfErr result (λ _. IsEmpty io.new) }
     ensures same_room { io.new.room ≡ io.old.room }
     ensures many { length positions.new ≡ length positions.old }

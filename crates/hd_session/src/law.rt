@@ -1,4 +1,4 @@
-ghost use Rattle.hd_session.specs.Laws.{LogsLoseNoUpdate, SessionsAnswerTheirLogs};
+ghost use Rattle.hd_session.specs.Laws.{ForetoldAnswersComeTrue, LogsLoseNoUpdate, SessionsAnswerTheirLogs};
 
 /// No update is lost between the PCBs of a session: each replace or delete that was answered blank works on just the rows and bytes that its
 /// PCB's last hold returned, and no other call has touched them since.
@@ -13,4 +13,9 @@ pub fn law_no_lost_update()
 /// So a program that keeps to the contracts of `Session::open`, `call` and `flush` concludes it: from no call made, call by call, to the log.
 pub fn law_sessions_answer_their_logs()
     ensures { SessionsAnswerTheirLogs }
+{}
+
+/// Calls that were foretold, made one after another, are answered as they were foretold.
+pub fn law_foretold_answers_come_true()
+    ensures { ForetoldAnswersComeTrue }
 {}

@@ -1,21 +1,28 @@
-ghost use Rattle.std.specs.Prelude.{◌≡◌, ◌≢◌, ◌<◌, ◌≤◌, Err, IsTrue, IfOk, IfErr, OnOk, OnErr, Some, length, true};
+ghost use Rattle.std.specs.Prelude.{◌≡◌, ◌≢◌, ◌<◌, ◌≤◌, ◌∷◌, [], Err, IsTrue, IfOk, IfErr, OnOk, OnErr, Some, length, true, false};
 ghost use Rattle.hd_dbd.specs.Facts.{stored_sizes};
 ghost use Rattle.hd_dbd.specs.Hierarchy.{longest_path};
 ghost use Rattle.hd_dbd.specs.ProgramRules.{type_names};
-ghost use Rattle.hd_volume.specs.Calls.{IsCall};
+ghost use Rattle.hd_dbd.specs.Types.{View};
+ghost use Rattle.hd_volume.specs.Calls.{IsCall, IsRead};
 ghost use Rattle.hd_stores.specs.Stores.{IsCommit, FailsCommit, CountsDevice, StaysSound};
 ghost use Rattle.hd_calls.specs.Functions.{function_of};
+ghost use Rattle.hd_calls.specs.Runs.{view_of};
+ghost use Rattle.hd_calls.specs.Steps.{State, position_at};
+ghost use Rattle.hd_update.specs.States.{Represents, kept_of};
 ghost use Rattle.hd_session.specs.Opening.{session_at_start, IsOpenedOver, IsOpenFaultOf, IsOpenRead, was_broken, is_broken_by, OnlyDeviceOrBroken};
 ghost use Rattle.hd_session.specs.Giving.{IsEmpty};
 ghost use Rattle.hd_session.specs.Sessions.{IsUndoneUnlessDevice};
 ghost use Rattle.hd_session.specs.Logged.{IsCallLogged};
 ghost use Rattle.hd_session.specs.Turns.{MayLackMemory};
+ghost use Rattle.hd_session.specs.Replies.{reply_of};
+ghost use Rattle.hd_session.specs.Foretelling.{can_be_foretold, StandsOver, HasOutlook, IsNextForetold};
 
 use crate::above::KeysAbove;
 use crate::buffer::IoArea;
 use crate::call_and_answer::{Answer, Call};
 use crate::calls::call_step;
 use crate::opening::{OpenFault, start_positions, test_volume};
+use crate::outlook::{Outlook, can_be_foretold, foretell_call};
 use hd_calls::Function;
 use hd_dbd::{Dbd, Psb, Refused};
 use hd_position::Position;
@@ -136,6 +143,74 @@ impl<'a, S: BlockStore> Session<'a, S> {
             self.broken = *refused == Refused::Device;
         }
         answered
+    }
+
+    /// Where the PCB of a number, counted from 1, is, for what its calls would answer from there.
+    pub fn outlook(&self, pcb: u8) -> Outlook
+        requires pcb { (0 < pcb) × (pcb ≤ length self.now.pcbs) }
+        ensures is { result ≡ kept_of self.now.kept pcb ∷ [] }
+        ensures stands { (st : State) → Represents self.now.database self.now.volume self.now.kept st → StandsOver self.now.database self.now.volume result st.rows (position_at st pcb) }
+        ensures outlook { self.now.broken ≡ false → HasOutlook self.now.database self.now.volume result }
+    {
+        Outlook {
+            positions: [self.positions[pcb as usize - 1].copy()],
+        }
+    }
+
+    /// Whether a call of the PCB of a number, counted from 1, can be foretold: it is a get with four segment search arguments at most, and the PCB does not load.
+    pub fn can_foretell(&self, pcb: u8, call: &Call) -> bool
+        requires pcb { (0 < pcb) × (pcb ≤ length self.now.pcbs) }
+        ensures { (view : View) → view_of self.now.pcbs pcb ≡ Some view → result ≡ can_be_foretold view call.now }
+    {
+        let number = pcb as usize;
+        let views = self.psb.pcbs();
+        can_be_foretold(&views[number - 1], call)
+    }
+
+    /// What a call of the PCB of a number that can be foretold would answer from an outlook, which goes on to where the PCB would be then. Nothing of the session
+    /// changes, unless an access fails.
+    pub fn foretell(
+        &mut self,
+        pcb: u8,
+        call: &Call,
+        outlook: &mut Outlook,
+        io: &mut IoArea,
+    ) -> Result<Answer, Refused>
+        requires pcb { (0 < pcb) × (pcb ≤ length self.old.pcbs) }
+        requires can { (view : View) → view_of self.old.pcbs pcb ≡ Some view → can_be_foretold view call.now ≡ true }
+        requires there { self.old.broken ≡ false → HasOutlook self.old.database self.old.volume outlook.old }
+        requires room { longest_path self.old.database.types ≤ io.old.room }
+        ensures foretold { IfOk result (λ a. (view : View) → view_of self.old.pcbs pcb ≡ Some view → IsNextForetold self.old.database view call.now self.old.volume outlook.old (reply_of a io.new) self.new.volume outlook.new) }
+        ensures there { IfOk result (λ _. HasOutlook self.old.database self.new.volume outlook.new) }
+        ensures read { IsRead self.old.volume result self.new.volume }
+        ensures same { self.new ≡ record self.old { volume = self.new.volume; broken = is_broken_by result } }
+        ensures broken { self.old.broken ≡ was_broken result }
+        ensures untouched { self.old.broken ≡ true → self.new ≡ self.old }
+        ensures refusal { OnlyDeviceOrBroken result }
+        ensures empty { IfErr result (λ _. IsEmpty io.new) }
+        ensures same_room { io.new.room ≡ io.old.room }
+    {
+        io.clear();
+        if self.broken {
+            return Err(Refused::Broken);
+        }
+        let number = pcb as usize;
+        let views = self.psb.pcbs();
+        let told = foretell_call(
+            self.alloc,
+            &mut self.volume,
+            self.dbd,
+            &views[number - 1],
+            outlook,
+            call,
+            &mut self.above,
+            io,
+        );
+        if told.is_err() {
+            self.above.forget();
+            self.broken = true;
+        }
+        told
     }
 
     /// Writes to the store what stands only in memory.

@@ -13,15 +13,16 @@ use hd_session::OpenFault;
 use hd_stores::BlockStore;
 use std::alloc::Global;
 
-/// The frames of calls over the sample, by both PCBs of its program, and of two commits.
+/// The frames of calls over the sample, by both PCBs of its program, of a call that is foretold, of one that is made twice, and of two commits.
 pub const FRAMES: &[&[u8]] = &[
     b"\0\0\0,\x01\x01GU  \x02\0\x19COURSE  *D(NUM     EQ101)\0\x08BOOK    ",
     b"\0\0\0\x1f\x01\x01GU  \x01\0\x16CLASS   (ED      EQ01)",
     b"\0\0\0\x07\x01\x01GNP \0",
     b"\0\0\0\x07\x01\x01GN  \0",
+    b"\0\0\0\x09\x05\x01\x01\x02GN  \0",
     b"\0\0\0\x07\x01\x02GN  \0",
     b"\0\0\0\x11\x01\x02GN  \x01\0\x08STUD    ",
-    b"\0\0\0!\x01\x01GHU \x01\0\x18STUD    (SNAME   EQADAM)",
+    b"\0\0\0\x09\x04\x02\x01\x01GN  \0\0\0\0!\x01\x01GHU \x01\0\x18STUD    (SNAME   EQADAM)",
     b"\0\0\0\x01\x02",
     b"\0\0\0\x0d\x01\x01REPL\0ADAM77",
     b"\0\0\0\x01\x02",
@@ -37,7 +38,7 @@ pub const FRAMES: &[&[u8]] = &[
 ];
 
 /// The frame that tells the sample and its program, and those of the answers, by the rules of DL/I.
-pub const ANSWERS: &[u8] = b"\0\0\0\x89HD\0\x02\x02\x04\
+pub const ANSWERS: &[u8] = b"\0\0\0\x89HD\0\x03\x02\x04\
     COURSE  \x01\0\0\x08\0\x08\x01NUM     \0\x01\0\x03C\
     CLASS   \x02\0\0\x04\0\x04\x01ED      \0\x01\0\x02C\
     STUD    \x03\0\0\x06\0\x06\x01SNAME   \0\x01\0\x04C\
@@ -48,6 +49,7 @@ pub const ANSWERS: &[u8] = b"\0\0\0\x89HD\0\x02\x02\x04\
     \0\0\0\x17\0  \x02CLASS   \0\x051010101AB\
     \0\0\0\x1d\0  \x03STUD    \0\x0910101ADAMADAM01\
     \0\0\0\x1d\0  \x03STUD    \0\x0910101EVE EVE 02\
+    \0\0\0\x1e\x07\0\0\0\x19\0  \x01COURSE  \0\x03101101ALGEB\
     \0\0\0\x19\0  \x01COURSE  \0\x03101101ALGEB\
     \0\0\0\x0e\0AC\0        \0\0\
     \0\0\0\x1d\0  \x03STUD    \0\x0910101ADAMADAM01\

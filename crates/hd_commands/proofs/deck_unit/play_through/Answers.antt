@@ -1,4 +1,4 @@
-use Rattle.std.proofs.Common.{◌≡◌, ◌<◌, ap, sym, ◌∙◌, arith}
+use Rattle.std.proofs.Common.{ap, sym, ◌∙◌, arith}
 use Rattle.hd_commands.proofs.UnitSaying.{unit-of-play, says-alike, refused-on}
 use Rattle.hd_commands.proofs.deck_unit.play_through.Goals as goal
 

@@ -1,4 +1,4 @@
-use Rattle.std.proofs.Common.{◌≡◌, map, refl, subst}
+use Rattle.std.proofs.Common.{map, refl, subst}
 use Rattle.hd_session.specs.Turns.{Turn}
 use Rattle.hd_session.specs.Requests.{ask}
 use Rattle.hd_serve.specs.Serves.{IsServed}

@@ -1,4 +1,4 @@
-use Rattle.std.proofs.Common.{◌≡◌, IsTrue, ℕ, List, Option, refl, sym, ap, ◌∙◌, arith}
+use Rattle.std.proofs.Common.{IsTrue, refl, sym, ◌∙◌, arith}
 use Rattle.hd_session.specs.Opening.{SessionState}
 use Rattle.hd_session.proofs.Requests.{IsCommitted}
 use Rattle.hd_serve.proofs.OneRequest.{serves_commit, does_commit}

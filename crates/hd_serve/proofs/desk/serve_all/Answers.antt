@@ -1,4 +1,3 @@
-use Rattle.std.proofs.Common.{List, ℕ, Option}
 use Rattle.std.specs.Io.KnownBytes.{prepend_known}
 use Rattle.hd_serve.proofs.SoFar.{ends_behind, untils_behind, none_done}
 use Rattle.hd_serve.proofs.desk.serve_all.Goals as goal

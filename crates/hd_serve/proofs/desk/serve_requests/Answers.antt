@@ -1,4 +1,4 @@
-use Rattle.std.proofs.Common.{◌≡◌, ℕ, ◌+◌, ◌≤◌, List, [], Option, Some, None, Result, Err, arith, ap, sym, ◌∙◌, subst, refl}
+use Rattle.std.proofs.Common.{◌≡◌, ℕ, ◌≤◌, List, [], Option, Result, Err, arith, ap, sym, ◌∙◌, subst, refl}
 use Rattle.std.specs.Prelude.{IfErr}
 use Rattle.std.specs.Io.KnownBytes.{prepend_known}
 use Rattle.std.proofs.lemmas.Result.{err_from_is_err_and}
@@ -10,7 +10,7 @@ use Rattle.hd_serve.specs.declared.desk.Ending.{Ending}
 use Rattle.hd_serve.specs.declared.desk.Next.TheVariants as next
 use Rattle.hd_serve.specs.declared.desk.Stop.{Stop}
 use Rattle.hd_serve.specs.Serves.{ComesTo, IsServedNext, EndsBy, StopsNext, IsServedToTheEnd, ServesUntil}
-use Rattle.hd_serve.proofs.SoFar.{none_so_far, one_call_more, one_more, to_the_end, until_stop, without_end}
+use Rattle.hd_serve.proofs.SoFar.{none_so_far, calls_few, one_more, to_the_end, until_stop, without_end}
 use Rattle.hd_serve.proofs.desk.serve_requests.Goals as goal
 
 pub requests-init : goal.requests-init
@@ -40,11 +40,11 @@ requests-preserved g c =
     let comes : ComesTo c.requests.desk.limits m left after mid new (next.Served n) t = rw c.in-Served.is at c.in_ok-count.ensures.next in
     let then : IsServedNext limits m left after mid new n.calls n.memory t = subst (λ (x : Limits). IsServedNext x m left after mid new n.calls n.memory t) same comes in
     let few : n.memory ≤ n.calls = then.served.few in
-    let one : n.calls ≤ 1 = one_call_more then.request n.calls then.served.count in
+    let some : n.calls ≤ 255 = calls_few limits then.request n.calls then.right then.served.count in
     record {
       so_far = one_more limits s m t input left old mid new c.requests.calls c.requests.memory c.requests.invariant.so_far after n.calls n.memory then;
       few = omega (arith, few, c.requests.invariant.few);
-      most = omega (arith, one, c.requests.invariant.most);
+      most = omega (arith, some, c.requests.invariant.most);
       whole = whole_both s m t c.requests.invariant.whole c.in_ok-count.ensures.whole;
       limits = c.serve_next.ensures.same.0 ∙ same;
       room = c.serve_next.ensures.same.1 ∙ c.requests.invariant.room;

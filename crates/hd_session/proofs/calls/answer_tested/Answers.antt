@@ -1,7 +1,7 @@
 use Rattle.std.proofs.Common.{◌≡◌, ℕ, ◌-◌, ◌<◌, List, length, Err, Ok, Some, sym, ap, subst, ◌∙◌, arith}
 use Rattle.std.specs.Prelude.{slice_index_or}
 use Rattle.hd_dbd.specs.Calls.{CallText}
-use Rattle.hd_volume.proofs.CallSteps.{if-ok}
+use Rattle.hd_volume.proofs.CallSteps.{if-ok, reads-join}
 use Rattle.hd_volume.proofs.JoinLemmas.{calls-join, if-err-map}
 use Rattle.hd_links.specs.Steps.{rows_of}
 use Rattle.hd_calls.specs.Steps.{AcceptedCall, Effect, accepted_call, position_at}
@@ -129,6 +129,10 @@ returns-in-None-clause-full g c = if-err-map c.answer_accepted.result (λ e full
 
 pub returns-in-None-clause-call : goal.returns-in-None-clause-call
 returns-in-None-clause-call g c = calls-join c.answer_accepted.result c.in_ok-status.ensures.read.call c.answer_accepted.ensures.call
+
+-- a get only reads
+pub returns-in-None-clause-reads : goal.returns-in-None-clause-reads
+returns-in-None-clause-reads g c get = reads-join c.answer_accepted.result c.in_ok-status.ensures.read (c.answer_accepted.ensures.reads get)
 
 -- ---- what is known
 
