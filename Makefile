@@ -112,7 +112,7 @@ definitions:
 bench: bin/hd
 	python3 bench/bench.py
 
-DLI = $(addprefix dli/,server.c database.c call.c io_pcb.c entries.c trace.c hdrun.c)
+DLI = $(addprefix dli/,server.c database.c call.c ahead.c io_pcb.c entries.c trace.c hdrun.c)
 
 # programs in COBOL and C call what hdrun exports
 bin/hdrun: $(DLI) dli/dli.h dli/include/ims.h

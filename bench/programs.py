@@ -144,7 +144,7 @@ def main(words):
     show("scan: Python", calls, least(["python3", "scan.py"], calls), opening)
     if shutil.which("strace"):
         reads, writes = system_calls([*hdrun, "DLI,SCAN"])
-        print(f"both sides' reads and writes, a call: {reads / calls:.2f} and {writes / calls:.2f}, two of each at best")
+        print(f"both sides' reads and writes, a call: {reads / calls:.2f} and {writes / calls:.2f}, two of each where nothing is read ahead")
     random_number = random.Random("keys")
     player = shapes.Deep(segments, random_number)
     keys = [player.path() for _ in range(UNIQUE)]

@@ -97,7 +97,8 @@ static size_t put(size_t place, const void *bytes, size_t length)
     return place + length;
 }
 
-static void send_call(const struct pcb *pcb, const char *function, const struct text *ssas, int count, const unsigned char *area, size_t area_length)
+/* Puts a call into the frame, and gives its bytes. */
+static size_t put_call(const struct pcb *pcb, const char *function, const struct text *ssas, int count, const unsigned char *area, size_t area_length)
 {
     unsigned char head[2] = {1, (unsigned char)pcb_number(pcb)};
     unsigned char ssa_count = (unsigned char)count;
@@ -107,14 +108,22 @@ static void send_call(const struct pcb *pcb, const char *function, const struct 
     length = put(length, &ssa_count, 1);
     for (int place = 0; place < count; place++) {
         size_t bytes = ssas[place].length;
-        unsigned char size[2] = {(unsigned char)(bytes >> 8), (unsigned char)bytes};
+        unsigned char size[2];
         if (bytes > 65535)
             abend("an SSA of more than 65535 bytes");
+        put_number(size, 2, (uint32_t)bytes);
         length = put(length, size, 2);
         length = put(length, ssas[place].bytes, bytes);
     }
-    length = put(length, area, area_length);
-    server_send(frame, length);
+    return put(length, area, area_length);
+}
+
+/* Whether a call may be read ahead: a GN or GNP without a qualification, for a search by one may pass thousands of segments for an answer. */
+static int is_read_ahead(const char *function, const struct text *ssas, int count)
+{
+    if (memcmp(function, "GN  ", 4) && memcmp(function, "GNP ", 4))
+        return 0;
+    return count == 0 || (count == 1 && !memchr(ssas->bytes, '(', ssas->length));
 }
 
 /* What the server says where it can't answer. IMS ends a program that its database can't serve. */
@@ -144,10 +153,8 @@ static void hold(struct pcb *pcb, const char *function, const struct argument *a
 }
 
 /* Puts an answer into the mask and the area, and gives the level of its segment. */
-static unsigned take_answer(struct pcb *pcb, unsigned char *area)
+static unsigned take_answer(struct pcb *pcb, unsigned char *area, const unsigned char *answer, size_t length)
 {
-    size_t length;
-    const unsigned char *answer = server_receive(&length);
     struct mask *mask = pcb->mask;
 
     trace_answer(answer, length);
@@ -189,9 +196,12 @@ void dli_call(int count, void **at)
         abend("a DL/I call with %d SSAs, where %d is the most", ssa_count, MOST_SSAS);
     for (int place = 0; place < ssa_count; place++)
         ssas[place] = (struct text){at[3 + place], read_argument(at[3 + place], arguments + place)};
-    size_t length = area_length(function, pcb, arguments, ssa_count, area);
-    trace_call(pcb_number(pcb), function, ssa_count, ssas, area, length);
-    send_call(pcb, function, ssas, ssa_count, area, length);
-    unsigned level = take_answer(pcb, area);
+    size_t given = area_length(function, pcb, arguments, ssa_count, area), told;
+    trace_call(pcb_number(pcb), function, ssa_count, ssas, area, given);
+    size_t length = put_call(pcb, function, ssas, ssa_count, area, given);
+    const unsigned char *answer = ahead_answer(frame, length, is_read_ahead(function, ssas, ssa_count), &told);
+    unsigned level = take_answer(pcb, area, answer, told);
+    if (!level)
+        ahead_end();
     hold(pcb, function, arguments, ssa_count, level);
 }

@@ -60,7 +60,7 @@ static const unsigned char *read_pcb(struct pcb *into, const unsigned char *at, 
 
 void database_read(const unsigned char *hello, size_t length)
 {
-    if (length < 6 || memcmp(hello, "HD", 2) || number_in(hello + 2, 2) != 2)
+    if (length < 6 || memcmp(hello, "HD", 2) || number_in(hello + 2, 2) != 3)
         abend("hd serve speaks another language than hdrun: they are of different versions");
     pcbs = hello[4];
     types = hello[5];

@@ -8,6 +8,9 @@
 /* The longest frame that either side sends, and the most SSAs and types that a call has. */
 enum { MOST_FRAME = 1 << 20, MOST_SSAS = 15, MOST_LEVELS = 15, MOST_PCBS = 255 };
 
+/* The longest frame that makes calls which were handed out: its length, kind, how often, and a call with one SSA. */
+enum { MOST_MAKE = 4 + 2 + 7 + 2 + 65535 };
+
 /* server.c: `hd serve` on two pipes. */
 
 /* Ends the program as an abend does: says why, has the server go back to the last commit, and exits with 16. */
@@ -16,7 +19,7 @@ _Noreturn void abend(const char *format, ...) __attribute__((format(printf, 1, 2
 /* Starts the server over its words, of which the last is NULL, and gives its first frame; the program's exit status where it ended before that. */
 int server_start(char *const words[], unsigned char **hello, size_t *length);
 
-/* Sends a frame: room for its length, and then so many bytes. */
+/* Sends a frame: room for its length, and then so many bytes. The calls that were handed out and not made go in front of it, in the same write. */
 void server_send(unsigned char *frame, size_t length);
 
 /* The next frame from the server, which stands until the next one is asked for. */
@@ -29,8 +32,22 @@ unsigned server_request(unsigned kind);
 /* Closes the server's input, waits for its end, and gives its exit status; 0 where there is none. */
 int server_end(void);
 
-/* The number in some bytes, the greatest first. */
+/* The number in some bytes, the greatest first; and puts one into them. */
 uint32_t number_in(const unsigned char *bytes, int count);
+void put_number(unsigned char *bytes, int count, uint32_t number);
+
+/* ahead.c: the same GN or GNP again and again, whose answers the server foretells. */
+
+/* The answer of a call, which stands until the next call: of those that were foretold, or else the server's. The call is a frame, room for its length and then so many
+   bytes; one that is read ahead has one SSA at most. */
+const unsigned char *ahead_answer(unsigned char *frame, size_t length, int is_read_ahead, size_t *answer_length);
+
+/* Ends a run, behind an answer without a segment. */
+void ahead_end(void);
+
+/* Puts the frame that makes the calls which were handed out, and gives its bytes, none where there are no such calls. Another frame follows, and ends the run:
+   what was foretold and not handed out is dropped. */
+size_t ahead_make(unsigned char *into);
 
 /* database.c: segment types, and PCB masks as IMS lays them out. */
 

@@ -168,7 +168,74 @@ def ssa(segment, codes="", **fields):
     return text + b"(" + b"&".join(_name(field) + b"EQ" + _bytes(value) for field, value in fields.items()) + b")"
 
 
-_COMMIT, _ROLL_BACK, _DONE = 2, 3, 6
+_COMMIT, _ROLL_BACK, _MAKE, _FORETELL, _DONE, _TOLD = 2, 3, 4, 5, 6, 7
+
+# How many answers the requests of a run bring, one behind the other, and further ones as many as the last. Where it is one, the request is the call itself: so a program
+# without runs makes the requests that it makes anyway.
+_BRINGS = (1, 1, 2, 4, 8, 16, 32, 63)
+
+
+class _Ahead:
+    """Reading ahead: where a program makes the same GN or GNP again and again, a run, the server foretells what the next ones will answer, and they are answered from here.
+
+    The server then stands behind the program by the answers that were handed out. It makes those calls before the next frame of any kind, by a request in front of it.
+    """
+
+    def __init__(self, send, receive):
+        self._send, self._receive = send, receive
+        self._call = b""
+        # the place of the run's next request, 0 where no run is under way; what was foretold and not handed out; how many answers were handed out and not made
+        self._step, self._told, self._handed = 0, iter(()), 0
+
+    def end(self):
+        """Ends a run, behind an answer without a segment."""
+        self._step = 0
+
+    def made(self):
+        """The frame that makes the calls which were handed out, or no bytes. Another frame follows, and ends the run: what was foretold and not handed out is dropped."""
+        made = _frame(bytes([_MAKE, self._handed]) + self._call) if self._handed else b""
+        self._step, self._told, self._handed = 0, iter(()), 0
+        return made
+
+    def answer(self, call, is_read_ahead):
+        """The answer of a call: of those that were foretold, or else the server's."""
+        step = self._step if call == self._call else 0
+        answer = next(self._told, None) if step else None
+        if not answer and _BRINGS[step] > 1:
+            self._send(bytes([_FORETELL, _BRINGS[step]]) + call)
+            told = self._receive()
+            if told[0] != _TOLD:
+                return told
+            self._told = _bodies(told, 1)
+            answer = next(self._told, None)
+            self._step = min(step + 1, len(_BRINGS) - 1)
+            # where none was told, the call is made, and begins a run
+            step = 0
+        if answer:
+            self._handed += 1
+            return answer
+        self._send(call)
+        if is_read_ahead:
+            self._call, self._step = call, step + 1
+        return self._receive()
+
+
+def _frame(body):
+    """A frame: the length of its body, and the body."""
+    return struct.pack(">I", len(body)) + body
+
+
+def _bodies(frames, begin):
+    """The bodies of frames that stand one behind the other, from a place on."""
+    while begin < len(frames):
+        (length,) = struct.unpack_from(">I", frames, begin)
+        yield frames[begin + 4 : begin + 4 + length]
+        begin += 4 + length
+
+
+def _is_read_ahead(function, ssas):
+    """Whether a call may be read ahead: a GN or GNP without a qualification, for a search by one may pass thousands of segments for an answer."""
+    return function in (b"GN  ", b"GNP ") and len(ssas) < 2 and not any(b"(" in argument for argument in ssas)
 
 
 class Session:
@@ -177,6 +244,7 @@ class Session:
     def __init__(self, dbd, psb, volume, program=None):
         words = [program or os.environ.get("HD", "hd"), "serve", "--commit-on-request", dbd, psb, volume]
         self._server = subprocess.Popen([os.fspath(word) for word in words], stdin=subprocess.PIPE, stdout=subprocess.PIPE, bufsize=-1, start_new_session=True)
+        self._ahead = _Ahead(self._send, self._receive)
         self._read_hello(self._receive())
 
     def _read_exact(self, count):
@@ -190,14 +258,15 @@ class Session:
         return self._read_exact(length)
 
     def _send(self, body):
+        """Sends a frame. The calls that were handed out and not made go in front of it, in the same write."""
         try:
-            self._server.stdin.write(struct.pack(">I", len(body)) + body)
+            self._server.stdin.write(self._ahead.made() + _frame(body))
             self._server.stdin.flush()
         except BrokenPipeError:
             raise Ended(f"hd serve ended with status {self._server.wait()}") from None
 
     def _read_hello(self, hello):
-        if hello[:2] != b"HD" or hello[2:4] != b"\0\2":
+        if hello[:2] != b"HD" or hello[2:4] != b"\0\3":
             raise Ended("hd serve is of another version than hd.py")
         pcbs, types = hello[4], hello[5]
         at = 6
@@ -224,14 +293,16 @@ class Session:
 
     def call(self, function, pcb, *ssas, area=b""):
         """A call by its function, with the number of its PCB."""
-        body = bytes([1, pcb]) + _bytes(function).ljust(4) + bytes([len(ssas)])
-        for argument in map(_bytes, ssas):
+        function, arguments = _bytes(function).ljust(4), [_bytes(argument) for argument in ssas]
+        body = bytes([1, pcb]) + function + bytes([len(arguments)])
+        for argument in arguments:
             body += struct.pack(">H", len(argument)) + argument
-        self._send(body + _bytes(area))
-        answer = self._receive()
+        answer = self._ahead.answer(body + _bytes(area), _is_read_ahead(function, arguments))
         if answer[0]:
             raise Refused(_OUTCOMES.get(answer[0], f"outcome {answer[0]}"))
         status, level, segment, length = struct.unpack_from(">2sB8sH", answer, 1)
+        if not level:
+            self._ahead.end()
         segment = segment.decode().rstrip()
         answered = Answer(status.decode(), level, segment, answer[14 : 14 + length], answer[14 + length :])
         answered.fields = self._fields.get(segment, {})

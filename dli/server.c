@@ -1,4 +1,4 @@
-/* `hd serve` on two pipes: one frame goes down for each call, and one comes up for each answer. */
+/* `hd serve` on two pipes: frames of requests go down, and frames of answers come up. */
 #define _GNU_SOURCE
 #include "dli.h"
 
@@ -24,6 +24,12 @@ uint32_t number_in(const unsigned char *bytes, int count)
     for (int place = 0; place < count; place++)
         number = number << 8 | bytes[place];
     return number;
+}
+
+void put_number(unsigned char *bytes, int count, uint32_t number)
+{
+    for (int place = count; place > 0; number >>= 8)
+        bytes[--place] = (unsigned char)number;
 }
 
 int server_end(void)
@@ -124,9 +130,13 @@ const unsigned char *server_receive(size_t *length)
 
 void server_send(unsigned char *frame, size_t length)
 {
-    for (int place = 0; place < 4; place++)
-        frame[place] = (unsigned char)(length >> (24 - 8 * place));
-    send_all(frame, length + 4);
+    static unsigned char both[MOST_MAKE + 4 + MOST_FRAME];
+    size_t before = ahead_make(both);
+
+    put_number(frame, 4, (uint32_t)length);
+    if (before)
+        memcpy(both + before, frame, 4 + length);
+    send_all(before ? both : frame, before + 4 + length);
 }
 
 unsigned server_request(unsigned kind)

@@ -3,13 +3,15 @@
 
     dli/test.py FOLDER      FOLDER has hdrun, as `make dli` leaves it in bin; hd is looked for there too
 
-Every program's calls are played once more as a deck over the volume that it began with, and answer the same. Then fields by their names in Python, programs that commit and take back,
-programs that die, servers that are killed and two programs at once are tried. It wants gcc, cobc and python3, and installs nothing.
+Every program's calls are played once more as a deck over the volume that it began with, and answer the same. Then fields by their names in Python, reading ahead, programs that commit and
+take back, programs that die, servers that are killed and two programs at once are tried. It wants gcc, cobc and python3, and installs nothing.
 """
 import os
 import random
+import shlex
 import shutil
 import signal
+import struct
 import subprocess
 import sys
 import tempfile
@@ -79,12 +81,21 @@ class Place:
             if made:
                 expect(f"{name} compiles", made.returncode == 0 and not made.stdout, made.stdout)
 
+    def write(self, name, text):
+        with open(self.path(name), "w" if isinstance(text, str) else "wb") as file:
+            file.write(text)
+        return self.path(name)
+
     def fresh(self, most="64"):
         """A volume without segments."""
-        with open(self.path("empty.stream"), "wb") as file:
-            file.write(b"HDUNLOAD\0\1PARTS   \0\0\0\0\0")
-        made = self.run("hd", "reload", os.path.join(PARTS, "parts.dbd"), "empty.stream", "parts.volume", most)
-        expect("an empty volume", made.returncode == 0, made.stdout)
+        self.reload(os.path.join(PARTS, "parts.dbd"), b"PARTS", [], "parts.volume", most)
+
+    def reload(self, dbd, database, rows, volume, most):
+        """A volume with segments: of each the number of its type, from 1 in the order of the DBD, and its bytes."""
+        records = b"".join(struct.pack(">BH", code, len(data)) + data for code, data in rows)
+        self.write("made.stream", b"HDUNLOAD\0\1" + database.ljust(8) + records + struct.pack(">BI", 0, len(rows)))
+        made = self.run("hd", "reload", dbd, "made.stream", volume, most)
+        expect(f"a volume of {len(rows)} segments", made.returncode == 0, made.stdout)
 
     def check(self, after):
         done = self.run("hd", "check", os.path.join(PARTS, "parts.dbd"), "parts.volume")
@@ -162,12 +173,10 @@ def sources(place):
         _, rest = file.read().split("\n", 1)
     as_it_is = place.run("hdrun", "DLI,PARTRPT")
     for pcb in PCBS.strip("\n").split("\n\n"):
-        with open(place.path("other.psb"), "w", encoding="ascii") as file:
-            file.write(f"{pcb}\n{rest}")
+        place.write("other.psb", f"{pcb}\n{rest}")
         done = place.run("hdrun", "--psb", "other.psb", "DLI,PARTRPT")
         expect(f"a PSB with {pcb}", (done.returncode, done.stdout) == (0, as_it_is.stdout), done.stdout)
-    with open(place.path("other.psb"), "w", encoding="ascii") as file:
-        file.write(f"{' ' * 80}X\n{rest}")
+    place.write("other.psb", f"{' ' * 80}X\n{rest}")
     done = place.run("hdrun", "--psb", "other.psb", "DLI,PARTRPT")
     expect("a PSB that is refused", done.returncode == 16 and "source refused: line 1, M1" in done.stdout, done.stdout)
 
@@ -190,6 +199,12 @@ def refusals(place):
     expect("a volume that is not there", done.returncode == 16 and done.stdout, done.stdout)
     done = place.run("hdrun", "DLI,PARTRPT", HD="/nowhere/hd")
     expect("no hd", done.returncode == 16 and "/nowhere/hd" in done.stdout, done.stdout)
+    old = place.write("old", "#!/bin/sh\ncase \" $* \" in *' serve '*) printf '\\0\\0\\0\\6HD\\0\\2\\0\\0' ;; *) exec hd \"$@\" ;; esac\n")
+    os.chmod(old, 0o755)
+    done = place.run("hdrun", "DLI,PARTRPT", HD=old)
+    expect("an older hd", done.returncode == 16 and "they are of different versions" in done.stdout, done.stdout)
+    done = place.run("python3", "-c", "import hd; hd.open('parts.dbd', 'parts.psb', 'parts.volume')", HD=old)
+    expect("an older hd, in Python", done.returncode == 1 and "hd serve is of another version than hd.py" in done.stdout, done.stdout)
     done = place.run("hdrun", "DLI,STRANGER,PARTRPT")
     expect("a PCB that is none", done.returncode == 16 and "U0476" in done.stdout, done.stdout)
     place.check("a PCB that is none")
@@ -425,7 +440,7 @@ def raised(call):
     """The error that a call raises, with what it says."""
     try:
         return f"no error, but {call()!r}"
-    except (ValueError, TypeError, KeyError) as error:
+    except (ValueError, TypeError, KeyError, hd.Refused) as error:
         return f"{type(error).__name__} {error}"
 
 
@@ -451,11 +466,9 @@ class Row:
 
 def fields(place):
     """Fields by their names in Python, by the TYPE of each: what is read of bytes, and what is written for a value."""
-    for name, text in (("kinds.dbd", KINDS_DBD), ("kinds.psb", KINDS_PSB)):
-        with open(place.path(name), "w", encoding="ascii") as file:
-            file.write(text)
-    made = [place.run("hd", "stream", "kinds.dbd", "/dev/null", "kinds.stream"), place.run("hd", "reload", "kinds.dbd", "kinds.stream", "kinds.volume", "64")]
-    expect("a volume for fields", [done.returncode for done in made] == [0, 0], made[0].stdout + made[1].stdout)
+    place.write("kinds.dbd", KINDS_DBD)
+    place.write("kinds.psb", KINDS_PSB)
+    place.reload("kinds.dbd", b"KINDS", [], "kinds.volume", "64")
     words = [place.path(name) for name in ("kinds.dbd", "kinds.psb", "kinds.volume")]
     with hd.open(*words, program=os.path.join(place.programs, "hd")) as session:
         told = list(session.types[0].fields.values())
@@ -488,6 +501,309 @@ def fields(place):
     expect("the volume of fields passes", place.run("hd", "check", "kinds.dbd", "kinds.volume").returncode == 0)
 
 
+class Single(hd.Session):
+    """A session that reads nothing ahead: each call is a frame, and each answer is one."""
+
+    def __init__(self, *words, **more):
+        super().__init__(*words, **more)
+        self._ahead.answer = self._single
+
+    def _single(self, call, _):
+        self._send(call)
+        return self._receive()
+
+
+# Scripts: a PCB, 0 for the I/O PCB, a function, an area and arguments
+CHKP, ROLB = (0, "CHKP", "RUNS0001"), (0, "ROLB", "")
+
+
+def played(session, script):
+    """What a script is answered, in the lines of `hd deck` without what stands in front."""
+    lines = []
+    for pcb, function, area, *ssas in script:
+        if not pcb:
+            (session.rollback if function == "ROLB" else session.commit)()
+            lines.append(f"{function} [  ]")
+            continue
+        answer = session.call(function, pcb, *ssas, area=area)
+        key, given = answer.key.decode("latin-1"), answer.area.decode("latin-1")
+        lines.append(f"[{answer.status}] {answer.level:02} {answer.segment:<8} key={key} area={given}")
+    return lines
+
+
+class Base:
+    """A database over which scripts are played: by C, by Python, and by Python with each call by itself. The volume is a new one each time."""
+
+    def __init__(self, place, dbd, psb, database, rows, most="4096"):
+        self.place, self.dbd, self.psb, self.database, self.rows, self.most = place, dbd, psb, database, rows, most
+
+    def begin(self):
+        self.place.reload(self.dbd, self.database, self.rows, "runs.volume", self.most)
+
+    def left(self):
+        return self.place.run("hd", "rows", self.dbd, "runs.volume").stdout
+
+    def python(self, script, make=hd.Session, program=None):
+        """What a script is answered in Python, and the rows that it leaves."""
+        self.begin()
+        with make(self.dbd, self.psb, self.place.path("runs.volume"), program=program or os.path.join(self.place.programs, "hd")) as session:
+            lines = played(session, script)
+        return lines, self.left()
+
+    def c(self, script, program="hd"):
+        """The end of the program in C that plays a script."""
+        self.begin()
+        path = self.place.write("runs.script", "".join("\t".join([str(pcb), f"{function:<4}", *more]) + "\n" for pcb, function, *more in script))
+        words = ["--dbd", self.dbd, "--psb", self.psb, "--volume", "runs.volume", "--deck", "runs.deck", "--answers", "runs.answers"]
+        return self.place.run("hdrun", *words, "DLI,RUNS", SCRIPT=path, HD=program)
+
+    def compare(self, what, script):
+        """A script is answered the same, and leaves the same, whether or not its calls are read ahead; and so say the traces."""
+        wanted, left = self.python(script, Single)
+        found, python_left = self.python(script)
+        expect(f"{what}: the answers in Python", found == wanted, differing(found, wanted))
+        expect(f"{what}: the rows that Python leaves", python_left == left)
+        done = self.c(script)
+        expect(f"{what}: the answers in C", (done.returncode, done.stdout.splitlines()) == (0, wanted), f"{done.returncode} {differing(done.stdout.splitlines(), wanted)}")
+        expect(f"{what}: the rows that C leaves", self.left() == left)
+        calls = [(made, line) for made, line in zip(script, wanted) if made[0]]
+        traced = [f"{number} {pcb} {function:<4} {line}" for number, ((pcb, function, *_), line) in enumerate(calls, 1)]
+        with open(self.place.path("runs.answers"), encoding="latin-1") as file:
+            answers = file.read()
+        expect(f"{what}: the trace of the answers", answers.splitlines() == traced, differing(answers.splitlines(), traced))
+        if ROLB not in script:
+            self.begin()
+            deck = self.place.run("hd", "deck", self.dbd, self.psb, "runs.volume", "runs.deck")
+            expect(f"{what}: the trace as a deck", deck.stdout == answers and self.left() == left, differing(deck.stdout.splitlines(), traced))
+
+    def pieces(self, what, script, wanted):
+        """What Python and C write for a script, each piece in one write."""
+        program = relay(self.place)
+        self.python(script, program=program)
+        found = {"Python": written(self.place)}
+        self.c(script, program)
+        found["C"] = written(self.place)
+        for language, pieces in found.items():
+            expect(f"{what}: what {language} writes", pieces == wanted, differing([piece.hex() for piece in pieces], [piece.hex() for piece in wanted]))
+
+
+def differing(found, wanted):
+    """The first line that differs."""
+    place = next((place for place, (one, other) in enumerate(zip(found, wanted)) if one != other), min(len(found), len(wanted)))
+    one, other = (lines[place][:300] if place < len(lines) else "none" for lines in (wanted, found))
+    return f"line {place + 1} of {len(wanted)}: {one} is wanted, {other} seen"
+
+
+def relay(place, refused=0):
+    """A program hd that writes down what it reads, and refuses a kind of frame."""
+    words = ["exec", "python3", os.path.join(HERE, "tests", "relay.py"), os.path.join(place.programs, "hd"), place.path("pieces"), str(refused)]
+    path = place.write("relay", f"#!/bin/sh\n{shlex.join(words)} \"$@\"\n")
+    os.chmod(path, 0o755)
+    return path
+
+
+def written(place):
+    with open(place.path("pieces"), encoding="ascii") as file:
+        return [bytes.fromhex(line) for line in file]
+
+
+def frame(*parts):
+    body = b"".join(parts)
+    return struct.pack(">I", len(body)) + body
+
+
+def call(pcb, function, area, *ssas):
+    """The body of a call's frame."""
+    arguments = b"".join(struct.pack(">H", len(it)) + it for it in map(str.encode, ssas))
+    return struct.pack(">BB4sB", 1, pcb, function.ljust(4).encode(), len(ssas)) + arguments + area.encode()
+
+
+def made(count, one):
+    return frame(b"\4", bytes([count]), call(*one))
+
+
+def foretold(count, one):
+    return frame(b"\5", bytes([count]), call(*one))
+
+
+def single(*one):
+    return frame(call(*one))
+
+
+COMMIT, ROLL_BACK = frame(b"\2"), frame(b"\3")
+
+GN, GNP, OTHER = (1, "GN", ""), (1, "GNP", ""), (2, "GN", "")
+PART, ORDER, ANY = (1, "GN", "", "PART    "), (2, "GNP", "", "ORDER   *-"), (1, "GN", "", "PART    (PARTNO  >=000000)")
+HOLD, REPLACE = (1, "GHU", "", "PART    "), (1, "REPL", f"{'000000A part':<32}")
+
+# Scripts over a thousand parts, and what is written for them
+PIECES = [
+    # 64 calls go to the first ones, and of the others 63 each to fourteen, and 54 to the last
+    (
+        "a thousand GN",
+        [GN] * 1000,
+        [single(*GN), single(*GN), foretold(2, GN), *[made(count, GN) + foretold(2 * count, GN) for count in (2, 4, 8, 16)]]
+        + [made(32, GN) + foretold(63, GN), *[made(63, GN) + foretold(63, GN)] * 14, made(54, GN) + COMMIT],
+    ),
+    (
+        "other calls between",
+        [*[GN] * 5, HOLD, REPLACE, *[GN] * 3, *[OTHER] * 4, *[GN] * 4, CHKP, *[GN] * 3, ROLB, *[GN] * 3, *[PART] * 3, GNP, *[ORDER] * 4],
+        [single(*GN), single(*GN), foretold(2, GN), made(2, GN) + foretold(4, GN), made(1, GN) + single(*HOLD), single(*REPLACE)]
+        + [single(*GN), single(*GN), foretold(2, GN), made(1, GN) + single(*OTHER), single(*OTHER), foretold(2, OTHER)]
+        + [made(2, OTHER) + single(*GN), single(*GN), foretold(2, GN), made(2, GN) + COMMIT]
+        + [single(*GN), single(*GN), foretold(2, GN), made(1, GN) + ROLL_BACK, single(*GN), single(*GN), foretold(2, GN)]
+        + [made(1, GN) + single(*PART), single(*PART), foretold(2, PART), made(1, PART) + single(*GNP)]
+        # (these are answered GP, since their PCB has no parent: each begins a run, and ends it)
+        + [*[single(*ORDER)] * 4, COMMIT],
+    ),
+    ("what is not read ahead", [*[ANY] * 5, *[(1, "GHN", "")] * 5], [*[single(*ANY)] * 5, *[single(1, "GHN", "")] * 5, COMMIT]),
+]
+
+# The same over five parts, where the run ends by GB and begins anew; and over one, where a GB in each second place lets none begin
+FIVE = (
+    [GN] * 12,
+    [single(*GN), single(*GN), foretold(2, GN), made(2, GN) + foretold(4, GN), made(2, GN) + single(*GN), single(*GN), foretold(2, GN), made(2, GN) + foretold(4, GN), made(2, GN) + COMMIT],
+)
+ONE = ([GN] * 6, [*[single(*GN)] * 6, COMMIT])
+
+
+def held(pcb, number):
+    return pcb, "GHU", "", f"PART    (PARTNO  EQ{number:06})"
+
+
+# What other calls change in the midst of runs, over a thousand parts, and the numbers of the parts that the GN give: nothing is handed out that was foretold before
+CHANGES = [
+    *[GN] * 5,
+    *[held(2, 5), (2, "DLET", "")],
+    *[GN] * 5,
+    *[held(2, 11), (2, "REPL", f"{'000011new':<32}"), (2, "ISRT", f"{'000005new':<32}", "PART    ")],
+    *[GN] * 6,
+    ROLB,
+    *[GN] * 7,
+    (1, "ISRT", f"{'000007new':<32}", "PART    "),
+    *[GN] * 4,
+    held(1, 3),
+    *[GN] * 4,
+    *[(1, "REPL", f"{'000003new':<32}"), held(1, 998)],
+    *[GN] * 5,
+]
+CHANGED = [*range(5), *range(6, 17), *range(7), *range(7, 11), *range(4, 8), 999, None, *range(3)]
+
+BIG_DBD = """         DBD   NAME=BIG,ACCESS=(HIDAM,VSAM)
+         DATASET DD1=BIGDD,SIZE=32768
+         SEGM  NAME=PART,PARENT=0,BYTES=BIGGEST
+         FIELD NAME=(PARTNO,SEQ,U),BYTES=255,START=1
+         DBDGEN
+"""
+
+BIG_PSB = """         PCB   TYPE=DB,DBDNAME=BIG,PROCOPT=A
+         SENSEG NAME=PART,PARENT=0
+         PSBGEN LANG=C,PSBNAME=RUNS,CMPAT=YES
+"""
+
+# How long segments are, how many there are, and what is written for some GN. Of 32,600 bytes none is foretold, for with its key and its length the answer has more than
+# 32,768; of 12,000 there is room for two.
+BIG = [
+    (32600, 9, 6, [single(*GN), single(*GN), foretold(2, GN), single(*GN), single(*GN), foretold(2, GN), single(*GN), single(*GN), COMMIT]),
+    (
+        12000,
+        9,
+        12,
+        [single(*GN), single(*GN), foretold(2, GN), *[made(2, GN) + foretold(count, GN) for count in (4, 8, 16)], made(2, GN) + single(*GN), single(*GN), COMMIT],
+    ),
+]
+
+
+# The arguments of runs, of which some are of no type, or ill formed; the last one is qualified
+ARGUMENTS = ("", "", "", "PART    ", "STOCK   ", "SUPPLIER ", "ORDER   ", "ORDER   *D ", "ORDER   *F ", "SUPPLIER*-L", "NOWHERE ", "PART", "ORDER   (QTY     EQ000020)")
+
+
+def random_script(chance, length, parts):
+    """Runs of GN and GNP by two PCBs, of which some go on to the end and behind it, and between them other calls, commits and roll backs."""
+
+    def run():
+        pcb, function, argument = chance.choice((1, 2)), chance.choice(("GN", "GNP")), chance.choice(ARGUMENTS)
+        first = [(pcb, "GU", "", f"PART    (PARTNO  >={chance.randrange(parts):06})")] * chance.randrange(2)
+        return first + [(pcb, function, "", *[argument][: len(argument)])] * chance.choice((1, 2, 3, 4, 5, 6, 7, 8, 10, 12, 20, 40, 100)[: 10 if function == "GNP" else 13])
+
+    def between():
+        pcb, number, colour = chance.choice((1, 2)), f"{chance.randrange(parts):06}", chance.choice(("blue", "red", "grey"))
+        this, house, supplier = f"PART    (PARTNO  EQ{number})", chance.choice(("BER", "HAM", "MUC")), f"S{chance.randrange(100):03}"
+        return chance.choice(
+            [
+                [CHKP],
+                [ROLB],
+                [(pcb, "GU", "", this)],
+                [(pcb, "GU", "", this, "SUPPLIER ")],
+                [(pcb, "GHN", "")],
+                [(pcb, "DLET", "")],
+                [(pcb, "GHU", "", this), (pcb, "REPL", f"{number}{'Another':<18}{colour:<8}")],
+                [(pcb, "GHU", "", this), (pcb, "DLET", "")],
+                [(pcb, "GHU", "", this, "SUPPLIER "), (pcb, "DLET", "")],
+                [(pcb, "GHN", "", "ORDER   "), (pcb, "DLET", "")],
+                [(pcb, "ISRT", f"{number}{'New':<18}{colour:<8}", "PART    ")],
+                [(1, "ISRT", f"{house}000100", this, "STOCK   ")],
+                [(pcb, "ISRT", f"{supplier}{'Supplier':<16}00000100", this, "SUPPLIER ")],
+            ]
+        )
+
+    script = []
+    while len(script) < length:
+        script += run() if chance.randrange(2) else between()
+    return script
+
+
+def parts_with_all(count):
+    """Parts, with stock, suppliers and orders below some."""
+    for number in range(count):
+        yield 1, f"{number:06}{'A part':<18}{'none':<8}".encode()
+        for house in (b"BER", b"HAM", b"MUC")[: number % 4]:
+            yield 2, house + b"000010"
+        for supplier in range(number % 6):
+            yield 3, f"S{supplier:03}{'Supplier':<16}00000001".encode()
+            for order in range((number + supplier) % 5):
+                yield 4, f"{order:06}000020".encode()
+
+
+def ahead(place):
+    """Reading ahead: answers, traces and rows are those of calls one by one, and the frames are what the rules say."""
+    psb, dbd = os.path.join(HERE, "tests", "RUNS.psb"), os.path.join(PARTS, "parts.dbd")
+    thousand, five, one = (Base(place, dbd, psb, b"PARTS", [(1, f"{number:06}{'':<26}".encode()) for number in range(count)]) for count in (1000, 5, 1))
+    for what, script, wanted in PIECES:
+        thousand.compare(what, script)
+        thousand.pieces(what, script, wanted)
+    thousand.compare("changes between", CHANGES)
+    found = [line for (pcb, function, *_), line in zip(CHANGES, thousand.python(CHANGES)[0]) if function == "GN"]
+    parts = [int(line.split("key=")[1][:6]) if "PART" in line else None for line in found]
+    expect("the parts that the GN give", parts == CHANGED and [line for line in found if "new" in line] == [f"[  ] 01 PART     key=000011 area={'000011new':<32}"], found)
+    for what, base, (script, wanted) in (("five parts", five, FIVE), ("one part", one, ONE)):
+        base.compare(what, script)
+        base.pieces(what, script, wanted)
+    all_types = Base(place, dbd, psb, b"PARTS", list(parts_with_all(60)))
+    for seed in range(12):
+        script = random_script(random.Random(f"runs {seed}"), 2000, 70)
+        all_types.compare(f"random runs {seed}", [line for line in script if seed % 2 or line != ROLB])
+    psb = place.write("big.psb", BIG_PSB)
+    for length, count, calls, wanted in BIG:
+        dbd = place.write("big.dbd", BIG_DBD.replace("BIGGEST", str(length)))
+        big = Base(place, dbd, psb, b"BIG", [(1, f"{number:06}".ljust(length).encode()) for number in range(count)], "64")
+        big.compare(f"segments of {length} bytes", [GN] * calls)
+        big.pieces(f"segments of {length} bytes", [GN] * calls, wanted)
+    refused_ahead(place, thousand)
+
+
+def refused_ahead(place, base):
+    """An access that fails while calls are foretold, or made behind that, is told as that of the call that follows, or of the commit at the end."""
+    for what, kind, count, last in (("foretold", 5, 3, "3 1 GN   [!!] Device"), ("made", 4, 5, "5 1 GN   [!!] Device"), ("made at the end", 4, 3, "3 1 GN   [  ] 01 PART ")):
+        program = relay(place, kind)
+        expect(f"calls that can't be {what}, in Python", raised(lambda: base.python([GN] * count, program=program)) == "Refused an access of the volume failed")
+        done = base.c([GN] * count, program)
+        expect(f"calls that can't be {what}, in C", done.returncode == 16 and "hdrun: an access of the volume failed" in done.stdout, f"{done.returncode} {done.stdout}")
+        with open(place.path("runs.answers"), encoding="ascii") as file:
+            lines = file.read().splitlines()
+        expect(f"calls that can't be {what}, in the trace", len(lines) == count and lines[-1].startswith(last), lines)
+
+
 def full_disk(place):
     """A volume on a disk that is full before the program ends; root alone can make such a disk."""
     disk = place.path("disk")
@@ -517,6 +833,7 @@ def main(words):
         place.compile()
         samples(place)
         fields(place)
+        ahead(place)
         entries(place)
         sources(place)
         refusals(place)

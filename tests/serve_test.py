@@ -32,7 +32,7 @@ def frame(*parts):
 
 def hello(types, pcbs):
     """The first frame, of types and PCBs."""
-    told = [b"HD", number(2, 2), number(len(pcbs), 1), number(len(types), 1)]
+    told = [b"HD", number(3, 2), number(len(pcbs), 1), number(len(types), 1)]
     for name, level, varies, most, least, fields in types:
         told += [b"%-8b" % name, number(level, 1), number(varies, 1), number(most, 2), number(least, 2), number(len(fields), 1)]
         told += [b"%-8b" % field + number(start, 2) + number(length, 2) + letter for field, start, length, letter in fields]
@@ -47,6 +47,21 @@ def call(pcb, function, *ssas, area=b"", kind=1):
 
 def answer(status, level=0, name=b"", key=b"", area=b""):
     return frame(b"\0", b"%-2b" % status, number(level, 1), b"%-8b" % name, counted(key), area)
+
+
+def make(count, one):
+    """A call that is made so often and not answered."""
+    return frame(b"\4", number(count, 1), one[4:])
+
+
+def foretell(count, one):
+    """A call of which is asked what it would answer now, and then again and again, so often at most."""
+    return frame(b"\5", number(count, 1), one[4:])
+
+
+def tells(*answers):
+    """What is foretold."""
+    return frame(b"\7", *answers)
 
 
 def refusal(number_of_it):
@@ -172,20 +187,121 @@ UNITS = [
 # The students that they leave, where the end of the input is a commit and where it is none
 ROWS = {True: (b"ADAM02", b"EVE 05"), False: (b"ADAM02", b"EVE 02")}
 
+# Each segment that a GN of the first PCB gives, and the end behind them
+GN = call(1, b"GN")
+SCAN = [
+    answer(b"", 1, b"COURSE", b"101", b"101ALGEB"),
+    answer(b"", 2, b"CLASS", b"10101", b"01AB"),
+    answer(b"", 3, b"STUD", b"10101ADAM", b"ADAM01"),
+    answer(b"", 3, b"STUD", b"10101EVE ", b"EVE 02"),
+    answer(b"GA", 2, b"CLASS", b"10102", b"02CD"),
+    answer(b"GK", 2, b"BOOK", b"101", b"EULER"),
+    answer(b"GA", 1, b"COURSE", b"205", b"205LOGIC"),
+    answer(b"GB"),
+]
+EVE = answer(b"", 3, b"STUD", b"10101EVE ", b"EVE 02")
+NEW = call(1, b"ISRT", b"COURSE  ", area=b"300GRAPH")
+
+# What is foretold, and what is made without an answer
+AHEAD = [
+    # a whole frame, byte by byte
+    (b"\0\0\0\x09\5\1\1\1GN  \0", b"\0\0\0\x1e\7\0\0\0\x19\0  \1COURSE  \0\x03101101ALGEB"),
+    # nothing changes by what is foretold
+    (foretell(3, GN), tells(*SCAN[:3])),
+    (foretell(3, GN), tells(*SCAN[:3])),
+    (GN, SCAN[0]),
+    (foretell(0, GN), tells()),
+    (GN, SCAN[1]),
+    # what is made has no answer, and moves the PCB
+    (make(2, GN), b""),
+    (make(0, GN), b""),
+    (GN, SCAN[4]),
+    # the end of the database is told last, and where it is made, the next one begins again
+    (foretell(3, GN), tells(*SCAN[5:])),
+    (foretell(4, GN), tells(*SCAN[5:])),
+    (foretell(255, GN), tells(*SCAN[5:])),
+    (make(2, GN), b""),
+    (foretell(255, GN), tells(SCAN[7])),
+    (make(1, GN), b""),
+    (GN, SCAN[0]),
+    (make(9, GN), b""),
+    (GN, SCAN[2]),
+    # an answer without a segment is told alone; one PCB has no parent and no position by what another one does
+    (foretell(3, call(2, b"GNP")), tells(answer(b"GP"))),
+    (foretell(2, call(2, b"GN")), tells(SCAN[0], SCAN[1])),
+    (foretell(3, call(1, b"GN", b"NOWHERE ")), tells(answer(b"AC"))),
+    (foretell(3, call(2, b"GN", b"STUD    ")), tells(answer(b"AC"))),
+    (foretell(3, call(1, b"GN", b"CLASS")), tells(answer(b"AJ"))),
+    (foretell(3, call(1, b"GN", b"COURSE  ", b"CLASS   ", b"STUD    ", b"STUD    ")), tells(answer(b"AC"))),
+    # none of five arguments, and none where the function is no get
+    (foretell(3, call(1, b"GN", b"COURSE  ", b"CLASS   ", b"STUD    ", b"STUD    ", b"STUD    ")), tells()),
+    (foretell(3, NEW), tells()),
+    (foretell(3, call(1, b"REPL", area=b"ADAM99")), tells()),
+    (foretell(3, call(1, b"DLET")), tells()),
+    (foretell(3, call(1, b"GXX")), tells()),
+    # a GU gives the same again and again
+    (foretell(2, call(1, b"GU", CLASS01)), tells(SCAN[1], SCAN[1])),
+    (foretell(3, call(1, b"GU", b"COURSE  (NUM     EQ300)")), tells(answer(b"GE"))),
+    (GN, SCAN[3]),
+    # what is held stays so
+    (HOLD, held(b"01")),
+    (foretell(9, call(1, b"GHN", b"STUD    ")), tells(EVE, answer(b"GB"))),
+    (call(1, b"REPL", area=b"ADAM02"), REPLACED),
+    # a parent stays one; by a call that is made, another becomes it, and what was held no longer is
+    (call(1, b"GHU", CLASS01), SCAN[1]),
+    (foretell(9, call(1, b"GNP")), tells(held(b"02"), EVE, answer(b"GE"))),
+    (foretell(1, GN), tells(held(b"02"))),
+    (call(1, b"GNP", b"STUD    "), held(b"02")),
+    (foretell(9, call(1, b"GNP")), tells(EVE, answer(b"GE"))),
+    (make(1, call(1, b"GNP")), b""),
+    (call(1, b"GNP"), answer(b"GE")),
+    (HOLD, held(b"02")),
+    (make(1, call(1, b"GN", b"COURSE  ")), b""),
+    (call(1, b"REPL", area=b"ADAM03"), answer(b"DJ")),
+    (foretell(9, call(1, b"GNP")), tells(answer(b"GE"))),
+    # what is made may change rows, and another PCB's rows are foretold as they are then
+    (make(2, NEW), b""),
+    (foretell(9, call(2, b"GN", b"COURSE  ")), tells(SCAN[0], answer(b"", 1, b"COURSE", b"205", b"205LOGIC"), answer(b"", 1, b"COURSE", b"300", b"300GRAPH"), answer(b"GB"))),
+    (COMMIT, DONE),
+    (call(1, b"GHU", b"COURSE  (NUM     EQ205)"), answer(b"", 1, b"COURSE", b"205", b"205LOGIC")),
+    (make(1, call(1, b"DLET")), b""),
+    (foretell(9, call(2, b"GN", b"COURSE  ")), tells(SCAN[0], answer(b"", 1, b"COURSE", b"300", b"300GRAPH"), answer(b"GB"))),
+    (ROLL_BACK, DONE),
+    (make(1, call(2, b"GN", b"COURSE  ")), b""),
+    (call(2, b"GN", b"COURSE  "), answer(b"", 1, b"COURSE", b"205", b"205LOGIC")),
+    (make(1, call(2, b"GN")), b""),
+]
+
+# Databases of one type, and how many answers are told of 255: their lengths, of four bytes each, and they have 32,768 bytes at most
+ROOM = b"""         DBD   NAME=ROOM,ACCESS=HIDAM
+         DATASET DD1=ROOMDD,SIZE=32768
+         SEGM  NAME=LONG,PARENT=0,BYTES=%d
+         FIELD NAME=(NUMBER,SEQ,U),BYTES=%d,START=1
+         DBDGEN
+"""
+ROOM_PSB = b"""         PCB   TYPE=DB,DBDNAME=ROOM,PROCOPT=%b
+         SENSEG NAME=LONG
+         PSBGEN
+"""
+ROOMS = [(236, 2, 128), (237, 2, 127), (32495, 255, 1), (32496, 255, 0)]
+
 # What is said of an input that ends inside a frame, and of what was changed before it
 CUT = b"frame refused: input ends inside a frame\n"
 BACK = b"taken back: what was changed since the last commit is gone\n"
 
-# The bytes of the longest path, and of the longest right body: fifteen arguments as long as two bytes say, and that path
+# The bytes of the longest path, and of the longest right body: a kind, how often, and a call of fifteen arguments as long as two bytes say, and that path
 PATH = 8 + 4 + 6
-BODY = 7 + 15 * (2 + 65535) + PATH
+BODY = 2 + 7 + 15 * (2 + 65535) + PATH
+LONGEST = call(2, b"GU", *[b"%-65535b" % b"COURSE"] * 15, area=b"x" * PATH)
 
 # Calls at the limits of a frame: the longest area, which no type has; the most arguments, of which the second is no argument; and both as long as they may be, where
 # the second names the type of the first
 LIMITS = [
     (call(1, b"ISRT", b"COURSE  ", area=b"abcdefghijklmnopqr"), refusal(AREA)),
     (call(2, b"GU", b"COURSE  ", *[b""] * 14), answer(b"AJ")),
-    (call(2, b"GU", *[b"%-65535b" % b"COURSE"] * 15, area=b"x" * PATH), answer(b"AC")),
+    (LONGEST, answer(b"AC")),
+    (make(255, LONGEST), b""),
+    (foretell(255, LONGEST), tells()),
 ]
 
 # Frames that are no right ones, and what is said of each
@@ -194,7 +310,19 @@ WRONG = [
     (frame(b"\1\1GU  "), "a body that ends before its parts"),
     (call(1, b"GU", kind=0), "a frame of kind 0"),
     (call(1, b"GU", kind=6), "a frame of kind 6"),
+    (call(1, b"GU", kind=7), "a frame of kind 7"),
     (frame(b"\6"), "a body that ends before its parts"),
+    (frame(b"\4"), "a body that ends before its parts"),
+    (frame(b"\5"), "a body that ends before its parts"),
+    (frame(b"\4\1"), "a body that ends before its parts"),
+    (call(1, b"GU", kind=4), "a body that ends before its parts"),
+    (foretell(1, call(1, b"GU")[:-1]), "a body that ends before its parts"),
+    (foretell(1, make(1, call(1, b"GU"))), "a frame of kind 4"),
+    (make(1, call(1, b"GU", kind=2)), "a frame of kind 2"),
+    (make(0, call(3, b"GU")), "no PCB 3"),
+    (foretell(0, frame(b"\1\1GU  \x10")), "16 segment search arguments"),
+    (foretell(1, frame(b"\1\1GU  \1\0\x08CLASS  ")), "a body that ends before its parts"),
+    (make(1, call(1, b"ISRT", area=b"a" * (PATH + 1))), "an area of 19 bytes"),
     (frame(b"\2\x09GU  \xff"), "a frame of kind 2 with further bytes"),
     (frame(b"\2\2"), "a frame of kind 2 with further bytes"),
     (frame(b"\3\0"), "a frame of kind 3 with further bytes"),
@@ -205,7 +333,7 @@ WRONG = [
     (frame(b"\1\1GU  \1\0"), "a body that ends before its parts"),
     (frame(b"\1\1GU  \1\0\x08CLASS  "), "a body that ends before its parts"),
     (call(1, b"ISRT", area=b"a" * (PATH + 1)), "an area of 19 bytes"),
-    (number(BODY + 1, 4) + b"\1\1GU  \0", "a body of 983081 bytes"),
+    (number(BODY + 1, 4) + b"\1\1GU  \0", "a body of 983083 bytes"),
     (b"\xff\xff\xff\xff", "a body of 4294967295 bytes"),
     (number(BODY, 4) + b"\1\1GU  \0", "input ends inside a frame"),
     (b"\0", "input ends inside a frame"),
@@ -244,7 +372,7 @@ class Trial:
 
     def play_talks(self):
         """Nothing, a call byte by byte, all calls, and those at the limits of frames; and a session that goes on where another ended."""
-        for what, talk in [("no call", []), ("a call byte by byte", [GET]), ("all functions", TALK), ("limits", LIMITS)]:
+        for what, talk in [("no call", []), ("a call byte by byte", [GET]), ("all functions", TALK), ("limits", LIMITS), ("what is foretold", AHEAD)]:
             self.leaves(asked(talk), Done(0, told(talk), b""), what)
         self.begin()
         for what, talk in [("a first session", FIRST), ("a second session", SECOND)]:
@@ -261,6 +389,25 @@ class Trial:
         done = self.place.player.run("serve", "kinds.dbd", "kinds.psb", "kinds.volume")
         wanted = Done(0, hello([(b"KIND", 1, 0, 300, 300, FIELDS)], [(b"KINDS", b"G", 1, 2)]), b"")
         self.count.expect("TYPEs in the first frame", done == wanted, f"{wanted} is wanted, {done} seen")
+        self.place.end()
+
+    def play_rooms(self):
+        """As many answers are told as there is room for; and none by a PCB that loads."""
+        for length, key, many in ROOMS:
+            rows = [number(row, 2) + b" " * (length - 2) for row in range(many + 2)]
+            self.play_room(length, key, b"G", rows, [(foretell(255, GN), tells(*(answer(b"", 1, b"LONG", row[:key], row) for row in rows[:many])))])
+        self.play_room(236, 2, b"L", [], [(foretell(255, GN), tells()), (GN, answer(b"AM"))])
+
+    def play_room(self, length, key, options, rows, talk):
+        self.begin()
+        write("room.dbd", ROOM % (length, key))
+        write("room.psb", ROOM_PSB % options)
+        write("room.stream", b"HDUNLOAD\0\1ROOM    " + b"".join(b"\1" + counted(row) for row in rows) + b"\0" + number(len(rows), 4))
+        self.place.player.run("reload", "room.dbd", "room.stream", "room.volume", "8")
+        done = self.place.player.run("serve", "room.dbd", "room.psb", "room.volume", given=asked(talk))
+        types = [(b"LONG", 1, 0, length, length, [(b"NUMBER", 1, key, b"C")])]
+        wanted = Done(0, hello(types, [(b"ROOM", options, 1, key)]) + b"".join(one for _, one in talk), b"")
+        self.count.expect(f"segments of {length} bytes, PROCOPT={options}", done == wanted, (len(done.out), len(wanted.out), done.status, done.err))
         self.place.end()
 
     def play_left(self):
@@ -355,12 +502,13 @@ def main(words):
     try:
         trial.play_talks()
         trial.play_types()
+        trial.play_rooms()
         trial.play_left()
         trial.play_cuts()
         trial.play_units()
         trial.play_wrong()
         trial.play_refused()
-        for talk in [TALK, UNITS]:
+        for talk in [TALK, UNITS, AHEAD]:
             trial.play_in_turn(talk, 1000)
             trial.play_in_turn(talk, 1)
     finally:
