@@ -5,7 +5,8 @@ use crate::call::{FramedCall, Limits, read_call};
 use crate::fault::FrameFault;
 use std::alloc::Global;
 
-/// What a frame asks for: a call; a call that is made so often and not answered; what a call would answer, so often at most; that what the calls so far have changed is to last; or that what is not to last is taken back.
+/// What a frame asks for: a call; a call that is made so often and not answered; what a call would answer, so often at most; that what the calls so far
+/// have changed is to last; or that what is not to last is taken back.
 #[derive(Drop)]
 pub enum FramedRequest {
     Call(FramedCall),
