@@ -13,12 +13,13 @@ use Rattle.hd_dbd.specs.Types.{SegmentType}
 use Rattle.hd_dbd.specs.Hierarchy.{Database}
 use Rattle.hd_dbd.specs.Rows.{key_of}
 use Rattle.hd_dbd.specs.Forest.{Forest}
+use Rattle.hd_dbd.specs.Prefixes.{is_backward_kept}
 use Rattle.hd_dbd.proofs.StoredSizes.{block_size-bounds}
 use Rattle.hd_volume.specs.Volumes.{VolumeState, block_at, IsKind}
 use Rattle.hd_volume.specs.Calls.{IsRead}
 use Rattle.hd_volume.proofs.ExtentLemmas.{used-is, segment-some}
 use Rattle.hd_volume.proofs.MapLemmas.{find-some, find-there}
-use Rattle.hd_prefix.specs.declared.pointer.Pointer.TheVariants.{TwinForward}
+use Rattle.hd_prefix.specs.declared.pointer.Pointer.TheVariants.{TwinForward, TwinBackward}
 use Rattle.hd_prefix.specs.Fields.{code_of, pointer_of, bytes_of}
 use Rattle.hd_links.specs.Links.{Links, IsSegment, segment_at}
 use Rattle.hd_links.specs.Placed.{Placed, Holds}
@@ -30,6 +31,7 @@ use Rattle.hd_forest.specs.declared.block_twins.Walk.{Walk}
 use Rattle.hd_forest.specs.Twins.{IsBehind, is_key_below, IsTwinFrom, IsLastBelow}
 use Rattle.hd_forest.specs.TwinPlaces.{twin_places}
 use Rattle.hd_forest.specs.BlockTwins.{HasTwin, forward_in, key_in, is_below_in, twin_in, twin_before, AreBelowIn, IsWalk, IsWalkFrom, IsEqualFrom}
+use Rattle.hd_forest.specs.BackTwins.{backward_in}
 use Rattle.hd_forest.proofs.Chains.{passed}
 use Rattle.hd_forest.proofs.Held.{held}
 use Rattle.hd_forest.proofs.Reading.{lent}
@@ -42,6 +44,7 @@ use Rattle.hd_forest.proofs.TwinsBelow.{range_in, places_read, HasPassed, passes
 pub record IsTwinOf (types : List SegmentType) (m : Links) (places : TwinPlaces) (block : List ℕ) (start : ℕ) (key : List ℕ) (a : ℕ) : Type 0 where
   pub there : HasTwin places block start a
   pub forward : forward_in places block start a ≡ m.forward a
+  pub backward : (place : ℕ) → places.backward ≡ Some place → place + 4 ≤ places.key → (backward_in place block start a ≡ m.backward a) × (is_backward_kept types (m.code a) ≡ true)
   pub below : is_below_in places block start key a ≡ is_key_below types key (segment_at m a)
   pub key_is : key_in places block start a ≡ key_of types (segment_at m a)
 
@@ -77,6 +80,12 @@ twin-of d v places key a fit of there are =
       there = record { behind = div-mul-le_self a v.size; within = omega (arith, at, within, R.long, R.key_long) };
       forward = ap (λ (i : ℕ). number_at 4 block (i + places.forward)) at ∙ number-in block s q places.forward u.1 within R.long ∙ R.forward
           ∙ ap (λ (b : List ℕ). pointer_of d.types (code_of b) TwinForward b) (sym l.stored);
+      backward = λ place kept room.
+          (let B = R.backward place kept in (
+            ap (λ (i : ℕ). number_at 4 block (i + place)) at ∙ number-in block s q place u.1 within (omega (arith, room, R.key_long)) ∙ B.0
+                ∙ ap (λ (b : List ℕ). pointer_of d.types (code_of b) TwinBackward b) (sym l.stored),
+            ap (λ (b : List ℕ). is_backward_kept d.types (code_of b)) l.stored ∙ B.1,
+          ));
       below = ap (λ (i : ℕ). is_lt (slice_cmp nat_cmp (bytes_at block (i + places.key) places.length) key)) at
           ∙ ap (λ (b : List ℕ). is_lt (slice_cmp nat_cmp b key)) (range-of block s q places.key places.length u.1 R.key_long) ∙ R.key_is
           ∙ ap (λ (b : List ℕ). is_key_below d.types key (record { code = code_of b; bytes = bytes_of d.types (code_of b) b })) (sym l.stored);
@@ -127,7 +136,7 @@ module _ (d : Database) (v : VolumeState) (f : Forest Placed) (fit : IsDatabase 
 
   module _ (n : ℕ) (kind : IsKind v 1 n) where
     -- a twin that the block's bytes have is in the block
-    in-block : (a : ℕ) → HasTwin places (block_at v n) (n * v.size) a → (0 < a) × (a / v.size ≡ n)
+    pub in-block : (a : ℕ) → HasTwin places (block_at v n) (n * v.size) a → (0 < a) × (a / v.size ≡ n)
     in-block a has =
         let long : length (block_at v n) ≡ v.size = length-block v.size n v.image kind.there in
         let size : 128 ≤ v.size = (let b = (block_size-bounds d.block_size d.frspc d.types fit).0 in let e = of.size in omega arith) in

@@ -25,5 +25,8 @@ pub mod UnlinkSpan
 pub mod TwinsBelow
 pub mod Passing
 pub mod BlockTwins
+pub mod BackTwins
+pub mod NearTwins
+pub mod LastChildren
 pub mod SegmentsSet
 pub mod RowsSet

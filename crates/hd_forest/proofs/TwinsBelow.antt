@@ -16,11 +16,11 @@ use Rattle.hd_dbd.specs.Rows.{key_of}
 use Rattle.hd_dbd.specs.DatabaseRules.{well_formed}
 use Rattle.hd_dbd.specs.Lengths.{least_length}
 use Rattle.hd_dbd.specs.Paths.{is_twin}
-use Rattle.hd_dbd.specs.Prefixes.{twin_part, child_parts, prefix_length}
+use Rattle.hd_dbd.specs.Prefixes.{twin_part, child_parts, prefix_length, is_backward_kept}
 use Rattle.hd_dbd.specs.Searches.{first_from, least_within}
 use Rattle.hd_dbd.specs.Forest.{Forest}
 use Rattle.hd_dbd.proofs.TypeLengths.{type-lengths}
-use Rattle.hd_prefix.specs.declared.pointer.Pointer.TheVariants.{TwinForward}
+use Rattle.hd_prefix.specs.declared.pointer.Pointer.TheVariants.{TwinForward, TwinBackward}
 use Rattle.hd_prefix.specs.Fields.{pointer_of, bytes_of, length_of, IsWhole}
 use Rattle.hd_links.specs.Links.{Links, IsSegment, segment_at}
 use Rattle.hd_links.specs.Pointers.{PointersAreTyped}
@@ -51,11 +51,12 @@ key_fits size frspc types c t k fit is has =
     inner : (start n len : ℕ) → 0 < start → start + n ≤ len + 1 → (start - 1) + n ≤ len
     inner start n len low high = omega arith
 
--- What stands at the places of a type's twin forward and key.
+-- What stands at the places of a type's twin pointers and key.
 pub record IsRead (types : List SegmentType) (c : ℕ) (places : TwinPlaces) (key s : List ℕ) : Type 0 where
   pub key_is : is_lt (slice_cmp nat_cmp (bytes_at s places.key places.length) key) ≡ is_key_below types key (record { code = c; bytes = bytes_of types c s })
   pub has_key : bytes_at s places.key places.length ≡ key_of types (record { code = c; bytes = bytes_of types c s })
   pub forward : number_at 4 s places.forward ≡ pointer_of types c TwinForward s
+  pub backward : (place : ℕ) → places.backward ≡ Some place → (number_at 4 s place ≡ pointer_of types c TwinBackward s) × (is_backward_kept types c ≡ true)
   pub long : places.forward + 4 ≤ length s
   pub key_long : places.key + places.length ≤ length s
 
@@ -74,10 +75,18 @@ module _ (size : ℕ) (frspc : FreeSpace) (types : List SegmentType) (fit : IsTr
             ∙ ap (λ (o : Option Key). option_map_or (λ k. part_of (bytes_of types c s) k.start k.length) o []) has
             ∙ range_in s (prefix_length types c) (length_of types c s) (k.start - 1) k.length inside);
         forward = sym (ap (λ (o : Option SegmentType). option_map_or (λ place. number_at 4 s place) (option_map (λ _. 2) o) 0) is);
+        backward = λ place kept. (
+          sym (ap (λ (o : Option ℕ). option_map_or (λ place. number_at 4 s place) o 0) kept),
+          is_kept (is_backward_kept types c) place kept,
+        );
         long = omega arith;
         key_long = omega arith;
       }
     where
+      is_kept : (b : Bool) (place : ℕ) → cond b (Some 6) None ≡ Some place → b ≡ true
+      is_kept true place e = refl
+      is_kept false place e = cc
+
       sizes : (b : Bool) → 6 ≤ cond b 10 6
       sizes true = omega arith
       sizes false = omega arith

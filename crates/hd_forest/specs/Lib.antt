@@ -3,6 +3,7 @@ pub mod Rows
 pub mod Twins
 pub mod TwinPlaces
 pub mod BlockTwins
+pub mod BackTwins
 pub mod Onward
 pub mod Children
 pub mod Updates

@@ -55,6 +55,10 @@ pub record IsLastBelow (types : List SegmentType) (m : Links) (key : List ℕ) (
   pub behind : IsBehind m p before from
   pub below : 0 < before → is_key_below types key (segment_at m before) ≡ true
 
+-- A walk along the twins from p for the first whose key is not below a key may begin at a: that is p, or a twin of the chain from p whose key is below.
+abbrev pub MayBegin : List SegmentType → Links → List ℕ → ℕ → ℕ → Type 0
+MayBegin types m key p a = (a ≡ p) ⊎ (IsInChain m p a × (is_key_below types key (segment_at m a) ≡ true))
+
 -- The address is that of a segment, whose key is this.
 pub record IsOfKey (types : List SegmentType) (m : Links) (key : List ℕ) (a : ℕ) : Type 0 where
   pub there : IsSegment m a

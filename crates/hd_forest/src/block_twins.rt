@@ -20,7 +20,7 @@ pub struct Walk {
 }
 
 /// Whether the key at a place is below another.
-fn is_below(block: &[u8], place: usize, count: usize, key: &[u8]) -> bool
+pub fn is_below(block: &[u8], place: usize, count: usize, key: &[u8]) -> bool
     requires within { place + count ≤ length block.now }
     ensures { result ≡ is_lt (slice_cmp nat_cmp (bytes_at block.now place count) key.now) }
 {
@@ -48,7 +48,7 @@ pub fn is_equal(places: TwinPlaces, block: &[u8], start: u32, key: &[u8], walk: 
 }
 
 /// Whether a block has the twin at an address, with its twin forward and its key.
-fn has_twin(places: TwinPlaces, block: &[u8], start: u32, twin: u32) -> bool
+pub fn has_twin(places: TwinPlaces, block: &[u8], start: u32, twin: u32) -> bool
     ensures { (result ≡ true) ↔ HasTwin places block.now start twin }
 {
     let own = places.key.saturating_add(places.length);
@@ -57,7 +57,7 @@ fn has_twin(places: TwinPlaces, block: &[u8], start: u32, twin: u32) -> bool
 }
 
 /// The last place in a block where a twin can stand with its twin forward and its key, and with eight bytes where that begins; `None` where there is none.
-fn last_place(places: TwinPlaces, block: &[u8]) -> Option<usize>
+pub fn last_place(places: TwinPlaces, block: &[u8]) -> Option<usize>
     ensures { IfSome result (λ last. HasRoom places (length block.now) last) }
 {
     let own = places.key.saturating_add(places.length.max(8));
@@ -66,7 +66,7 @@ fn last_place(places: TwinPlaces, block: &[u8]) -> Option<usize>
 }
 
 /// The place of a twin in a block, whose first byte has an address, up to a last one; `None` where it is not there.
-fn place_up_to(start: u32, twin: u32, last: usize) -> Option<usize>
+pub fn place_up_to(start: u32, twin: u32, last: usize) -> Option<usize>
     ensures { IfSome result (λ place. (start ≤ twin) × (place ≡ twin - start) × (place ≤ last)) }
 {
     if twin < start {

@@ -2,6 +2,7 @@ ghost use Rattle.std.specs.Prelude.{◌≡◌, ◌<◌, ◌≤◌, true, length,
 ghost use Rattle.hd_dbd.specs.Prefixes.{prefix_length};
 ghost use Rattle.hd_dbd.specs.Refusals.{OnlyDevice};
 ghost use Rattle.hd_volume.specs.Calls.{IsRead};
+ghost use Rattle.hd_prefix.specs.declared.pointer.Pointer.TheVariants.{FirstChild, LastChild};
 ghost use Rattle.hd_prefix.specs.Fields.{code_of, pointer_of, twin_forward_of};
 ghost use Rattle.hd_links.specs.Links.{IsSegment, is_child_type};
 ghost use Rattle.hd_links.specs.Steps.{LeadsDown};
@@ -130,6 +131,70 @@ pub fn last_child<S: BlockStore>(
         return Ok(volume.last_root());
     }
     read_pointer(volume, dbd, parent, Pointer::LastChild(code))
+}
+
+/// The first and the last of the children of a type below a parent, each 0 for none.
+#[derive(Clone, Copy, Debug)]
+pub struct EndChildren {
+    pub first: u32,
+    pub last: u32,
+}
+
+/// What a lent segment names as its first and its last child of a type.
+fn ends_in(dbd: &Dbd, segment: &[u8], code: u8) -> EndChildren
+    ensures first { prefix_length dbd.now.types (code_of segment.now) ≤ length segment.now → result.first ≡ pointer_of dbd.now.types (code_of segment.now) (FirstChild code) segment.now }
+    ensures last { prefix_length dbd.now.types (code_of segment.now) ≤ length segment.now → result.last ≡ pointer_of dbd.now.types (code_of segment.now) (LastChild code) segment.now }
+{
+    let layout = Layout::of(dbd, code_in(segment));
+    if segment.len() < layout.prefix_length() as usize {
+        return EndChildren { first: 0, last: 0 };
+    }
+    EndChildren {
+        first: layout.read(segment, Pointer::FirstChild(code)),
+        last: layout.read(segment, Pointer::LastChild(code)),
+    }
+}
+
+/// What the segment at an address names as its first and its last child of a type. One access.
+fn read_ends<S: BlockStore>(
+    volume: &mut Volume<S>,
+    dbd: &Dbd,
+    address: u32,
+    code: u8,
+) -> Result<EndChildren, Refused>
+    requires of { IsTrue volume.old.is_sound → IsVolumeOf dbd.now volume.old }
+    requires there { IsTrue volume.old.is_sound → IsSegment (links_of dbd.now.types volume.old) address }
+    ensures read { IsRead volume.old result volume.new }
+    ensures first { IfOk result (λ r. IsTrue volume.old.is_sound → r.first ≡ pointer_at dbd.now.types volume.old (FirstChild code) address) }
+    ensures last { IfOk result (λ r. IsTrue volume.old.is_sound → r.last ≡ pointer_at dbd.now.types volume.old (LastChild code) address) }
+    ensures refusal { OnlyDevice result }
+{
+    let segment = volume.segment_at(address)?;
+    Ok(ends_in(dbd, segment, code))
+}
+
+/// The addresses of the first and the last child of a type below a parent, each 0 for none, and the last where the type's parents do not
+/// keep it; below the address 0, the header, the first and the last root. One access.
+pub fn first_and_last_child<S: BlockStore>(
+    volume: &mut Volume<S>,
+    dbd: &Dbd,
+    parent: u32,
+    code: u8,
+) -> Result<EndChildren, Refused>
+    requires of { IsTrue volume.old.is_sound → IsVolumeOf dbd.now volume.old }
+    requires there { IsTrue volume.old.is_sound → (links_of dbd.now.types volume.old).here parent ≡ true }
+    ensures read { IsRead volume.old result volume.new }
+    ensures first { IfOk result (λ r. IsTrue volume.old.is_sound → r.first ≡ (links_of dbd.now.types volume.old).first_child parent code) }
+    ensures last { IfOk result (λ r. IsTrue volume.old.is_sound → r.last ≡ (links_of dbd.now.types volume.old).last_child parent code) }
+    ensures refusal { OnlyDevice result }
+{
+    if parent == 0 {
+        return Ok(EndChildren {
+            first: volume.first_root(),
+            last: volume.last_root(),
+        });
+    }
+    read_ends(volume, dbd, parent, code)
 }
 
 /// The last of some addresses, 0 for none.

@@ -19,15 +19,16 @@ use hd_prefix::{Layout, Pointer};
 use hd_stores::BlockStore;
 use hd_volume::Volume;
 
-/// Where the stored segments of a type that has a key have twin forward and the key, and the key's length.
+/// Where the stored segments of a type that has a key have twin forward, twin backward, where it is kept, and the key, and the key's length.
 #[derive(Clone, Copy, Debug)]
 pub struct TwinPlaces {
     pub(crate) forward: u16,
+    pub(crate) backward: Option<u16>,
     pub(crate) key: usize,
     pub(crate) length: usize,
 }
 
-/// Where the segments of the type of a code have twin forward and the key; `None` where it has no key.
+/// Where the segments of the type of a code have their twin pointers and the key; `None` where it has no key.
 pub fn twin_places(dbd: &Dbd, code: u8) -> Option<TwinPlaces>
     ensures { result ≡ twin_places dbd.now.types code }
 {
@@ -37,6 +38,7 @@ pub fn twin_places(dbd: &Dbd, code: u8) -> Option<TwinPlaces>
     let forward = layout.place_of(Pointer::TwinForward)?;
     Some(TwinPlaces {
         forward,
+        backward: layout.place_of(Pointer::TwinBackward),
         key: layout.prefix_length() as usize + (key.start as usize).saturating_sub(1),
         length: key.length as usize,
     })
@@ -114,6 +116,29 @@ pub fn twins_around<S: BlockStore>(
     ensures refusal { OnlyDevice result }
 {
     let number = number_of_key(key, places.length);
+    around_by_number(volume, dbd, places, address, key, number)
+}
+
+/// The same, by the key's number where it has one.
+pub fn around_by_number<S: BlockStore>(
+    volume: &mut Volume<S>,
+    dbd: &Dbd,
+    places: TwinPlaces,
+    address: u32,
+    key: &[u8],
+    number: Option<u64>,
+) -> Result<TwinsAround, Refused>
+    requires of { IsTrue volume.old.is_sound → IsVolumeOf dbd.now volume.old }
+    requires holds { IsTrue volume.old.is_sound → HasForest dbd.now volume.old }
+    requires there { IsTrue volume.old.is_sound → IsSegment (links_of dbd.now.types volume.old) address }
+    requires places { IsTrue volume.old.is_sound → twin_places dbd.now.types ((links_of dbd.now.types volume.old).code address) ≡ Some places }
+    requires number { IfSome number (λ n. IsNumberOf places.length key.now n) }
+    ensures read { IsRead volume.old result volume.new }
+    ensures from { IfOk result (λ r. IsTrue volume.old.is_sound → IsTwinFrom dbd.now.types (links_of dbd.now.types volume.old) key.now address r.from) }
+    ensures before { IfOk result (λ r. IsTrue volume.old.is_sound → IsLastBelow dbd.now.types (links_of dbd.now.types volume.old) key.now address r.before r.from) }
+    ensures equal { IfOk result (λ r. IsTrue volume.old.is_sound → r.is_equal ≡ true → IsOfKey dbd.now.types (links_of dbd.now.types volume.old) key.now r.from) }
+    ensures refusal { OnlyDevice result }
+{
     let most = volume.length();
     let mut before = 0;
     let mut twin = address;

@@ -214,7 +214,8 @@ fn get_by_search<S: BlockStore>(
 ///
 /// With arguments the rows that a get reads, each an access where it leads to another block:
 /// - GU by the root's key: a block of each level of the index, and the root found there. Below,
-///   the twins of each type on the way up to the one that is wanted, or to the first whose key is past what is asked.
+///   the twins of each type on the way up to the one that is wanted, or to the first whose key is past what is asked: from the first on, or back
+///   from the last, where that and twin backward are kept and the key is nearer to it.
 /// - Of a row that does not meet its argument that row alone, and nothing of its span; of a type off the way to the last argument's nothing.
 /// - With L and no qualification the last twin alone where the parent keeps its last child, else all twins; with a qualification all twins.
 /// - GN and GNP also read the rows above the one where they begin.

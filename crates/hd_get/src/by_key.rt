@@ -13,7 +13,7 @@ use crate::arguments::least_key_of;
 use crate::look::{admits_seen, look_at};
 use crate::search_starts::unique;
 use hd_dbd::{Dbd, Refused, compare_keys};
-use hd_forest::{Path, first_child, tip_of, twin_places, twins_around};
+use hd_forest::{Path, first_and_last_child, tip_of, twin_places, twins_around_between};
 use hd_index::next_from;
 use hd_ssa::ResolvedSsa;
 use hd_stores::BlockStore;
@@ -58,7 +58,8 @@ fn least_child_key<'a>(dbd: &Dbd, ssas: &[ResolvedSsa<'a>], above: u8, code: u8)
 }
 
 /// Goes down from the last row of a path to its first child, of the type of a code, whose key is not below a key, and says whether its key is equal;
-/// `None` where there is no such child, and where the type has no key. The row is read, and the blocks of the twins up to that child.
+/// `None` where there is no such child, and where the type has no key. The row is read, and the blocks of the twins up to that child, from the
+/// first on, or, where its last child and twin backward are kept and the key is nearer to the last's, back from the last.
 fn go_below<S: BlockStore>(
     volume: &mut Volume<S>,
     dbd: &Dbd,
@@ -76,11 +77,11 @@ fn go_below<S: BlockStore>(
     let Some(places) = twin_places(dbd, code) else {
         return Ok(None);
     };
-    let child = first_child(volume, dbd, tip_of(path), code)?;
-    if child == 0 {
+    let ends = first_and_last_child(volume, dbd, tip_of(path), code)?;
+    if ends.first == 0 {
         return Ok(None);
     }
-    let around = twins_around(volume, dbd, places, child, key)?;
+    let around = twins_around_between(volume, dbd, places, ends.first, ends.last, key)?;
     if around.from == 0 {
         return Ok(None);
     }
@@ -203,7 +204,8 @@ fn descend_from<S: BlockStore>(
 /// Where the root's argument tells of a least key, it is the first root whose key is not below that, which the index has, and, if this meets its
 /// arguments, from there down as far as the arguments tell of keys and such are found, or one child further; else it is the first root.
 ///
-/// One block of each level of the index is read, the root, and below it the twins that are passed over and each row that is gone down from; or one row.
+/// One block of each level of the index is read, the root, and below it the ends of the twins, those that are passed over from the nearer
+/// end on and each row that is gone down from; or one row.
 pub fn unique_by_key<S: BlockStore>(
     volume: &mut Volume<S>,
     dbd: &Dbd,

@@ -17,9 +17,9 @@ const COUNTED: &[u8] =
 1 seek/COURSE  ;;  1
 #1
 1 name/COURSE  ;;  1
-#7:the index's one level, the course, three classes, two students
+#8/9:the index's one level, the course, its last class and its first, from the last back to the one before the class, that class again, two students
 1 seek/COURSE  (NUM     EQ205)/CLASS   (ED      EQ05)/STUD    (SNAME   EQBETH);;  20/29/31
-#7
+#8/9
 1 name/COURSE  (NUM     EQ205)/CLASS   (ED      EQ05)/STUD    (SNAME   EQBETH);;  20/29/31
 #1:a key behind the last: the index alone
 1 seek/COURSE  (NUM     EQ400);;  0
@@ -29,9 +29,9 @@ const COUNTED: &[u8] =
 1 seek/CLASS   (ED      EQ03)/STUD    ;;  1/6/7
 #4
 1 name/CLASS   (ED      EQ03)/STUD    ;;  1/6/7
-#6/7:a key that no class has: the index, the course, three classes, the course again where its slot has a class, and the next course, whose key is greater too
+#7/8:a key that no class has: the index, the course, its last class and its first, three classes, the course again where its slot has a class, and the next course, whose key is greater too
 1 seek/COURSE  (NUM     EQ101)/CLASS   (ED      EQ04);;  0
-#6/7
+#7/8
 1 name/COURSE  (NUM     EQ101)/CLASS   (ED      EQ04);;  0
 #3:the index, the course, its first book
 1 seek/COURSE  (NUM     EQ205)/BOOK    ;;  20/37
@@ -41,9 +41,9 @@ const COUNTED: &[u8] =
 1 seek/COURSE  (NUM     EQ205)/CLASS   *L;;  20/33
 #3
 1 name/COURSE  (NUM     EQ205)/CLASS   *L;;  20/33
-#6:the index, the course, its first class, which does not keep its last student, and all three students
+#7:the index, the course, its last class and its first, which does not keep its last student, and all three students
 1 seek/COURSE  (NUM     EQ205)/CLASS   (ED      EQ01)/STUD    *L;;  20/21/24
-#6
+#7
 1 name/COURSE  (NUM     EQ205)/CLASS   (ED      EQ01)/STUD    *L;;  20/21/24
 #4:the index, the course, its last class, and the first student of that
 1 seek/COURSE  (NUM     EQ309)/CLASS   *L/STUD    ;;  39/52/53

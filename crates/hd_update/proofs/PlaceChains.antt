@@ -1,5 +1,5 @@
 -- A chain of twins, and where a row without key goes in.
-use Rattle.std.proofs.Common.{◌≡◌, ℕ, zero, suc, ◌<◌, ◌≤◌, List, [], Bool, true, false, Option, Some, None, Ok, refl, sym, ap, subst, ◌∙◌, arith, inl, inr}
+use Rattle.std.proofs.Common.{◌≡◌, ℕ, zero, suc, ◌<◌, ◌≤◌, List, [], Bool, true, false, Option, Some, None, Ok, IsTrue, refl, sym, ap, subst, ◌∙◌, arith, inl, inr}
 use Rattle.std.specs.Prelude.{cond, is_some, option_map, option_and_then}
 use Rattle.std.specs.Option.{option_map_or}
 use Rattle.std.specs.Ordering.{nat_cmp, is_lt}
@@ -20,14 +20,16 @@ use Rattle.hd_links.specs.Pointers.{IsTwinAfter, IsInChain}
 use Rattle.hd_links.proofs.Build.{zero_or}
 use Rattle.hd_links.proofs.Ways.{chain_more}
 use Rattle.hd_image.specs.Records.{links_of}
+use Rattle.hd_forest.specs.declared.read.EndChildren.{EndChildren}
 use Rattle.hd_forest.specs.Twins.{AreTwins, twin_after, IsTwinWithin, IsBehind, is_key_below}
 use Rattle.hd_forest.specs.TwinPlaces.{places_of, twin_places}
 use Rattle.hd_forest.proofs.Chains.{twin-some}
 use Rattle.hd_forest.proofs.Held.{held}
-use Rattle.hd_forest.proofs.Reading.{after-read, sound-before}
+use Rattle.hd_forest.proofs.LastChildren.{last-chained}
+use Rattle.hd_forest.proofs.Reading.{after-read, sound-before, links-kept}
 use Rattle.hd_forest.proofs.Tips.{twins-there}
 use Rattle.hd_update.specs.declared.places.Side.TheVariants.{Before, Behind}
-use Rattle.hd_update.specs.Places.{has_key, side_of, side_at, IsGapFound, IsGapBelow, IsParent, HasParent}
+use Rattle.hd_update.specs.Places.{has_key, side_of, side_at, IsGapFound, IsGapBelow, IsParent, HasParent, HasEnds}
 
 -- what stands behind a twin, or first, is in the chain
 pub reached : (m : Links) (p y z : ℕ) → IsBehind m p y z → 0 < z → IsInChain m p z
@@ -88,7 +90,37 @@ behind_chained m p y z (inr b) some = b.1
 pub some_of : (n : ℕ) → (n ≡ 0 → ⊥) → 0 < n
 some_of n ne = elim (zero_or n) [ inl z ↦ absurd (ne z) | inr w ↦ w ]
 
+-- What is known of the last child below a parent.
+pub record IsLastOfEnds (types : List SegmentType) (m : Links) (h code : ℕ) (ends : EndChildren) : Type 0 where
+  pub chain : IsInChain m ends.first ends.last
+  pub own : IsInChain m (m.first_child h code) ends.last
+  pub there : IsSegment m ends.last
+  pub typed : m.code ends.last ≡ code
+  pub behind : IsBehind m (m.first_child h code) ends.last 0
+
+-- it is the last of the chain
+pub last_of_ends : (d : Database) (v : VolumeState) (h code : ℕ) (ends : EndChildren) → HasParent d v h code → HasEnds d v h code ends → 0 < ends.last → (sound : IsTrue v.is_sound)
+    → IsLastOfEnds d.types (links_of d.types v) h code ends
+last_of_ends d v h code ends has are some sound =
+    let m : Links = links_of d.types v in
+    let P = has sound in
+    let E = are sound in
+    let L = last-chained d v P.volume.fit P.volume P.forest h code P.here P.typed (subst (λ x. 0 < x) E.1 some) in
+    let own : IsInChain m (m.first_child h code) ends.last = subst (IsInChain m (m.first_child h code)) (sym E.1) L.0 in
+    let T = chain_typed d v h code P ends.last own in
+    record {
+      chain = subst (λ x. IsInChain m x ends.last) (sym E.0) own;
+      own = own;
+      there = T.0;
+      typed = T.1;
+      behind = inr (some, own, ap m.forward E.1 ∙ L.1);
+    }
+
 -- ---- after calls that read
+
+-- the same ends
+pub ends_kept : {A : Type 0} {x : A} (d : Database) (u v : VolumeState) → IsRead {T = A} u (Ok x) v → (h code : ℕ) (ends : EndChildren) → HasEnds d u h code ends → HasEnds d v h code ends
+ends_kept d u v read h code ends are = links-kept d (λ (m : Links). (ends.first ≡ m.first_child h code) × (ends.last ≡ m.last_child h code)) u v read are
 
 -- the same parent
 pub parent_kept : {A : Type 0} {x : A} (d : Database) (u v : VolumeState) → IsRead {T = A} u (Ok x) v → (h code : ℕ) → HasParent d u h code → HasParent d v h code

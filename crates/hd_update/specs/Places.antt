@@ -25,6 +25,7 @@ use Rattle.hd_image.specs.Records.{links_of, IsVolumeOf}
 use Rattle.hd_image.specs.Holding.{HoldsPlaced}
 use Rattle.hd_forest.specs.Walks.{tip, parent_on, HasForest}
 use Rattle.hd_forest.specs.Rows.{IsOnRow}
+use Rattle.hd_forest.specs.declared.read.EndChildren.{EndChildren}
 use Rattle.hd_forest.specs.declared.twins.TwinsAround.{TwinsAround}
 use Rattle.hd_forest.specs.Twins.{IsBehind, IsLastBelow}
 use Rattle.hd_forest.specs.Updates.{MayLink}
@@ -98,6 +99,11 @@ pub record IsGap (types : List SegmentType) (m : Links) (first : ℕ) (last : Bo
 abbrev pub IsGapFound : List SegmentType → Links → ℕ → Bool → Segment → Option ℕ → Type 0
 IsGapFound types m first last row None = (a : ℕ) × IsInChain m first a × (side_at types m last row a ≡ Taken)
 IsGapFound types m first last row (Some y) = (z : ℕ) × IsGap types m first last row y z
+
+-- where the store is sound, these are the first and the last child of a type below h, each 0 for none, or the first and the last root
+abbrev pub HasEnds : Database → VolumeState → ℕ → ℕ → EndChildren → Type 0
+HasEnds d v h code ends =
+    IsTrue v.is_sound → (ends.first ≡ (links_of d.types v).first_child h code) × (ends.last ≡ (links_of d.types v).last_child h code)
 
 -- where the store is sound, these are the twins around a row's key below h, or the roots: the last whose key is below, and the one behind it
 abbrev pub IsAroundKey : Database → VolumeState → ℕ → Segment → TwinsAround → Type 0

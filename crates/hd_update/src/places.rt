@@ -1,5 +1,5 @@
 //! Where a row goes in: the twin behind which it is linked.
-ghost use Rattle.std.specs.Prelude.{◌≡◌, List, ℕ, true, false, Some, IfOk, IsTrue};
+ghost use Rattle.std.specs.Prelude.{◌≡◌, ◌<◌, List, ℕ, true, false, Some, IfOk, IsTrue};
 ghost use Rattle.hd_dbd.specs.Loads.{has_unique_key};
 ghost use Rattle.hd_dbd.specs.Refusals.{OnlyDevice};
 ghost use Rattle.hd_dbd.specs.Rows.{row_fits};
@@ -9,14 +9,14 @@ ghost use Rattle.hd_forest.specs.TwinPlaces.{twin_places};
 ghost use Rattle.hd_get.specs.Meeting.{IsStored};
 ghost use Rattle.hd_get.specs.Searches.{IsOf};
 ghost use Rattle.hd_get.specs.Starts.{HasRoots};
-ghost use Rattle.hd_update.specs.Places.{has_key, side_of, side_at, IsGapBelow, HasParent, HasNextRoot, HasPlace, IsPlaceBelow, IsAroundKey};
+ghost use Rattle.hd_update.specs.Places.{has_key, side_of, side_at, IsGapBelow, HasParent, HasNextRoot, HasPlace, IsPlaceBelow, IsAroundKey, HasEnds};
 
 use crate::here::place_here;
 use crate::load_rule::key_order;
 use hd_dbd::{Dbd, Refused, Rule, compare_keys};
 use hd_forest::{
-    Path, TwinPlaces, TwinsAround, first_child, forward_in, key_at, last_twin, prev_twin, tip_of,
-    twin_places, twins_around,
+    EndChildren, Path, TwinPlaces, TwinsAround, first_and_last_child, forward_in, key_at,
+    last_twin, prev_twin, tip_of, twin_places, twins_around_between,
 };
 use hd_index::next_from;
 use hd_position::Position;
@@ -136,43 +136,54 @@ fn place_without_key<S: BlockStore>(
     Ok(Some(twin))
 }
 
-/// The twins around a new row's key below a parent.
+/// The twins around a new row's key below a parent, whose children of its type have these ends. They are passed over from the end that is nearer to
+/// the key.
 fn around_key<S: BlockStore>(
     volume: &mut Volume<S>,
     dbd: &Dbd,
     places: TwinPlaces,
     parent: u32,
+    ends: EndChildren,
     code: u8,
     bytes: &[u8],
 ) -> Result<TwinsAround, Refused>
     requires parent { HasParent dbd.now volume.old parent code }
     requires places { twin_places dbd.now.types code ≡ Some places }
+    requires ends { HasEnds dbd.now volume.old parent code ends }
     ensures read { IsRead volume.old result volume.new }
     ensures value { IfOk result (λ r. IsAroundKey dbd.now volume.old parent (record { code = code; bytes = bytes.now }) r) }
     ensures refusal { OnlyDevice result }
 {
-    let first = first_child(volume, dbd, parent, code)?;
-    if first == 0 {
+    if ends.first == 0 {
         return Ok(TwinsAround {
             before: 0,
             from: 0,
             is_equal: false,
         });
     }
-    twins_around(volume, dbd, places, first, dbd.key_of(code, bytes))
+    twins_around_between(
+        volume,
+        dbd,
+        places,
+        ends.first,
+        ends.last,
+        dbd.key_of(code, bytes),
+    )
 }
 
-/// The place of a row by key, from the first twin on: behind the last one behind which it goes. The twins whose keys are below are passed over
-/// block by block; of the others each is read once, and none behind that but the next.
-fn place_from_first<S: BlockStore>(
+/// The place of a row by key, among the children of its type that have these ends: behind the last one behind which it goes. The twins whose keys are
+/// below are passed over block by block; of the others each is read once, and none behind that but the next.
+fn place_among<S: BlockStore>(
     volume: &mut Volume<S>,
     dbd: &Dbd,
     parent: u32,
+    ends: EndChildren,
     last: bool,
     code: u8,
     bytes: &[u8],
 ) -> Result<Option<u32>, Refused>
     requires parent { HasParent dbd.now volume.old parent code }
+    requires ends { HasEnds dbd.now volume.old parent code ends }
     ensures read { IsRead volume.old result volume.new }
     ensures value { IfOk result (λ r. IsGapBelow dbd.now volume.old parent last (record { code = code; bytes = bytes.now }) r) }
     ensures refusal { OnlyDevice result }
@@ -181,7 +192,7 @@ fn place_from_first<S: BlockStore>(
         return place_without_key(volume, dbd, parent, last, code);
     };
     let most = volume.length();
-    let around = around_key(volume, dbd, places, parent, code, bytes)?;
+    let around = around_key(volume, dbd, places, parent, ends, code, bytes)?;
     let mut before = around.before;
     let mut twin = around.from;
     for _ in 0..most {
@@ -200,29 +211,27 @@ fn place_from_first<S: BlockStore>(
     Ok(Some(before))
 }
 
-/// The place of a row by key where its parent keeps last child: rows that come in ascending order go in behind the last twin, and no other
-/// is read.
+/// The place of a row by key where the last child of its type is known: rows that come in ascending order go in behind that, and no other is read.
 fn place_from_last<S: BlockStore>(
     volume: &mut Volume<S>,
     dbd: &Dbd,
     parent: u32,
+    ends: EndChildren,
     last: bool,
     code: u8,
     bytes: &[u8],
 ) -> Result<Option<u32>, Refused>
     requires parent { HasParent dbd.now volume.old parent code }
+    requires ends { HasEnds dbd.now volume.old parent code ends }
+    requires some { 0 < ends.last }
     ensures read { IsRead volume.old result volume.new }
     ensures value { IfOk result (λ r. IsGapBelow dbd.now volume.old parent last (record { code = code; bytes = bytes.now }) r) }
     ensures refusal { OnlyDevice result }
 {
-    let end = last_twin(volume, dbd, parent, code)?;
-    if end == 0 {
-        return Ok(Some(0));
-    }
-    match side_at(volume, dbd, end, last, code, bytes)? {
-        Side::Behind => Ok(Some(end)),
+    match side_at(volume, dbd, ends.last, last, code, bytes)? {
+        Side::Behind => Ok(Some(ends.last)),
         Side::Taken => Ok(None),
-        Side::Before => place_from_first(volume, dbd, parent, last, code, bytes),
+        Side::Before => place_among(volume, dbd, parent, ends, last, code, bytes),
     }
 }
 
@@ -243,10 +252,11 @@ pub fn place_by_key<S: BlockStore>(
     if !has_key(dbd, code) {
         return place_without_key(volume, dbd, parent, last, code);
     }
-    if dbd.keeps_last_child(code) {
-        return place_from_last(volume, dbd, parent, last, code, bytes);
+    let ends = first_and_last_child(volume, dbd, parent, code)?;
+    if ends.last == 0 {
+        return place_among(volume, dbd, parent, ends, last, code, bytes);
     }
-    place_from_first(volume, dbd, parent, last, code, bytes)
+    place_from_last(volume, dbd, parent, ends, last, code, bytes)
 }
 
 /// The place of a root before the first one whose key is not less, if that is not its own.
@@ -299,7 +309,8 @@ fn place_of_root<S: BlockStore>(
 ///
 /// A root is found by the index. Of twins without key none is read where the place is known: before all, behind the last where last child
 /// is kept, or before the one on which the PCB stands where twin backward is kept. By key the last twin is read first, where last child is
-/// kept, and if the row does not go behind it the twins from the first on, up to the one before which it goes.
+/// kept, and if the row does not go behind it the twins up to the one before which it goes: from the first on, or, where twin backward is kept and the
+/// row's key is nearer to the last's, back from the last.
 pub fn place_below<S: BlockStore>(
     volume: &mut Volume<S>,
     dbd: &Dbd,

@@ -10,6 +10,7 @@ use Rattle.hd_volume.specs.Volumes.{VolumeState}
 use Rattle.hd_volume.proofs.CallSteps.{read-ok, reads-join}
 use Rattle.hd_links.specs.Links.{IsSegment, is_child_type, segment_at}
 use Rattle.hd_links.specs.Placed.{Placed}
+use Rattle.hd_links.specs.Pointers.{IsInChain}
 use Rattle.hd_links.specs.Steps.{rows_of, address_at, path_at}
 use Rattle.hd_get.specs.Asking.{address_from}
 use Rattle.hd_image.specs.Records.{links_of, IsVolumeOf}
@@ -18,6 +19,7 @@ use Rattle.hd_forest.specs.Rows.{IsOnRow}
 use Rattle.hd_forest.specs.Twins.{IsTwinFrom}
 use Rattle.hd_forest.specs.TwinPlaces.{twin_places}
 use Rattle.hd_forest.proofs.Reading.{after-read, sound-before, links-kept, volume-kept}
+use Rattle.hd_forest.proofs.LastChildren.{last-chained}
 use Rattle.hd_calls.specs.Gets.{first_child}
 use Rattle.hd_get.proofs.Grounds.{grounds, tip_is, tip_there, tip_code, short_path_by}
 use Rattle.hd_get.proofs.Climbs.{child_same, child_some}
@@ -32,8 +34,8 @@ nothing e is = cc
 pub returns-in_default-clause-value : goal.returns-in_default-clause-value
 returns-in_default-clause-value g c f i at = record { below = λ e is. absurd (nothing e is); stays = λ e. refl }
 
-pub first_child-requires-clause-there : goal.first_child-requires-clause-there
-first_child-requires-clause-there g c sound =
+pub first_and_last_child-requires-clause-there : goal.first_and_last_child-requires-clause-there
+first_and_last_child-requires-clause-there g c sound =
     let d = c.args.dbd.now in
     let u = c.args.volume.now in
     let T = c.requires.there sound in
@@ -72,40 +74,56 @@ found d v of f path i on code child tip_ is read there typed_ =
       code_is = ap m.code named ∙ ap (λ (r : Segment). r.code) (G.addressed.same T.0 C.within) ∙ C.code_is;
     }
 
-pub returns-then-child-eq0-clause-value : goal.returns-then-child-eq0-clause-value
-returns-then-child-eq0-clause-value g c f i at = record { below = λ e is. absurd (nothing e is); stays = λ e. refl }
+pub returns-then-ends-eq0-clause-value : goal.returns-then-ends-eq0-clause-value
+returns-then-ends-eq0-clause-value g c f i at = record { below = λ e is. absurd (nothing e is); stays = λ e. refl }
 
-pub twins_around-requires-clause-of : goal.twins_around-requires-clause-of
-twins_around-requires-clause-of g c = volume-kept c.args.dbd.now c.args.volume.now c.first_child.new.volume c.in_ok-child.ensures.read c.requires.of
+pub twins_around_between-requires-clause-of : goal.twins_around_between-requires-clause-of
+twins_around_between-requires-clause-of g c = volume-kept c.args.dbd.now c.args.volume.now c.first_and_last_child.new.volume c.in_ok-ends.ensures.read c.requires.of
 
-pub twins_around-requires-clause-holds : goal.twins_around-requires-clause-holds
-twins_around-requires-clause-holds g c now =
+pub twins_around_between-requires-clause-holds : goal.twins_around_between-requires-clause-holds
+twins_around_between-requires-clause-holds g c now =
     let d = c.args.dbd.now in
     let u = c.args.volume.now in
-    let sound = sound-before u c.first_child.new.volume c.in_ok-child.ensures.read now in
+    let sound = sound-before u c.first_and_last_child.new.volume c.in_ok-ends.ensures.read now in
     let T = c.requires.there sound in
-    (after-read d u c.first_child.new.volume c.in_ok-child.ensures.read sound).forest (T.0, T.2.holds)
+    (after-read d u c.first_and_last_child.new.volume c.in_ok-ends.ensures.read sound).forest (T.0, T.2.holds)
 
-pub twins_around-requires-clause-there : goal.twins_around-requires-clause-there
-twins_around-requires-clause-there g c =
-    links-kept c.args.dbd.now (λ m. IsSegment m c.in_ok-child.child) c.args.volume.now c.first_child.new.volume c.in_ok-child.ensures.read
-    (λ sound. (let T = c.requires.there sound in (found c.args.dbd.now c.args.volume.now (c.requires.of sound) T.0 c.args.path.now T.1 T.2 c.args.code c.in_ok-child.child c.tip_of.result c.tip_of.ensures (c.in_ok-child.ensures.value sound)
-    (some c.in_ok-child.child c.if-child-eq0.false) (c.requires.typed sound)).there))
+pub twins_around_between-requires-clause-there : goal.twins_around_between-requires-clause-there
+twins_around_between-requires-clause-there g c =
+    links-kept c.args.dbd.now (λ m. IsSegment m c.in_ok-ends.ends.first) c.args.volume.now c.first_and_last_child.new.volume c.in_ok-ends.ensures.read
+    (λ sound. (let T = c.requires.there sound in (found c.args.dbd.now c.args.volume.now (c.requires.of sound) T.0 c.args.path.now T.1 T.2 c.args.code c.in_ok-ends.ends.first c.tip_of.result c.tip_of.ensures (c.in_ok-ends.ensures.first sound)
+    (some c.in_ok-ends.ends.first c.if-ends-eq0.false) (c.requires.typed sound)).there))
 
-pub twins_around-requires-clause-places : goal.twins_around-requires-clause-places
-twins_around-requires-clause-places g c =
-    links-kept c.args.dbd.now (λ m. twin_places c.args.dbd.now.types (m.code c.in_ok-child.child) ≡ Some c.in-Some.places) c.args.volume.now c.first_child.new.volume c.in_ok-child.ensures.read
-    (λ sound. (let T = c.requires.there sound in ap (twin_places c.args.dbd.now.types) (found c.args.dbd.now c.args.volume.now (c.requires.of sound) T.0 c.args.path.now T.1 T.2 c.args.code c.in_ok-child.child c.tip_of.result c.tip_of.ensures (c.in_ok-child.ensures.value sound)
-    (some c.in_ok-child.child c.if-child-eq0.false) (c.requires.typed sound)).code_is ∙ sym c.twin_places.ensures ∙ c.in-Some.is))
+pub twins_around_between-requires-clause-places : goal.twins_around_between-requires-clause-places
+twins_around_between-requires-clause-places g c =
+    links-kept c.args.dbd.now (λ m. twin_places c.args.dbd.now.types (m.code c.in_ok-ends.ends.first) ≡ Some c.in-Some.places) c.args.volume.now c.first_and_last_child.new.volume c.in_ok-ends.ensures.read
+    (λ sound. (let T = c.requires.there sound in ap (twin_places c.args.dbd.now.types) (found c.args.dbd.now c.args.volume.now (c.requires.of sound) T.0 c.args.path.now T.1 T.2 c.args.code c.in_ok-ends.ends.first c.tip_of.result c.tip_of.ensures (c.in_ok-ends.ensures.first sound)
+    (some c.in_ok-ends.ends.first c.if-ends-eq0.false) (c.requires.typed sound)).code_is ∙ sym c.twin_places.ensures ∙ c.in-Some.is))
+
+pub twins_around_between-requires-clause-last : goal.twins_around_between-requires-clause-last
+twins_around_between-requires-clause-last g c =
+    let d = c.args.dbd.now in
+    let u = c.args.volume.now in
+    let ends = c.in_ok-ends.ends in
+    links-kept d (λ m. 0 < ends.last → IsInChain m ends.first ends.last) u c.first_and_last_child.new.volume c.in_ok-ends.ensures.read
+    (λ sound some.
+    (let m = links_of d.types u in
+    let of = c.requires.of sound in
+    let T = c.requires.there sound in
+    let here = (subst (IsSegment m) (sym c.tip_of.ensures) (tip_there d.types m T.0 (grounds d u T.0 of T.2.holds) c.args.path.now T.1 T.2)).here in
+    let typed = subst (λ h. is_child_type d.types (m.code h) c.args.code ≡ true) (sym c.tip_of.ensures) (c.requires.typed sound) in
+    let chain = last-chained d u of.fit of (T.0, T.2.holds) c.tip_of.result c.args.code here typed (subst (λ x. 0 < x) (c.in_ok-ends.ensures.last sound) some) in
+    subst (λ x. IsInChain m x ends.last) (sym (c.in_ok-ends.ensures.first sound))
+    (subst (IsInChain m (m.first_child c.tip_of.result c.args.code)) (sym (c.in_ok-ends.ensures.last sound)) chain.0)))
 
 pub returns-then-around-eq0-clause-read : goal.returns-then-around-eq0-clause-read
-returns-then-around-eq0-clause-read g c = reads-join (Ok None) c.in_ok-child.ensures.read (read-ok None c.in_ok-around.ensures.read)
+returns-then-around-eq0-clause-read g c = reads-join (Ok None) c.in_ok-ends.ensures.read (read-ok None c.in_ok-around.ensures.read)
 
 pub returns-then-around-eq0-clause-value : goal.returns-then-around-eq0-clause-value
 returns-then-around-eq0-clause-value g c f i at = record { below = λ e is. absurd (nothing e is); stays = λ e. refl }
 
 pub returns-clause-read : goal.returns-clause-read
-returns-clause-read g c = reads-join (Ok (Some c.in_ok-around.around.is_equal)) c.in_ok-child.ensures.read (read-ok (Some c.in_ok-around.around.is_equal) c.in_ok-around.ensures.read)
+returns-clause-read g c = reads-join (Ok (Some c.in_ok-around.around.is_equal)) c.in_ok-ends.ensures.read (read-ok (Some c.in_ok-around.around.is_equal) c.in_ok-around.ensures.read)
 
 one_of : (a b : Bool) → Some a ≡ Some b → a ≡ b
 one_of a b e = cc
@@ -114,16 +132,16 @@ pub returns-clause-value : goal.returns-clause-value
 returns-clause-value g c f i at =
     let d = c.args.dbd.now in
     let u = c.args.volume.now in
-    let v = c.first_child.new.volume in
+    let v = c.first_and_last_child.new.volume in
     let m = links_of d.types u in
     let G = grounds d u f (c.requires.of at.sound) at.row.holds in
-    let F = (found c.args.dbd.now c.args.volume.now (c.requires.of at.sound) f c.args.path.now i at.row c.args.code c.in_ok-child.child c.tip_of.result c.tip_of.ensures (c.in_ok-child.ensures.value at.sound)
-    (some c.in_ok-child.child c.if-child-eq0.false) (c.requires.typed at.sound)) in
-    let same = after-read d u v c.in_ok-child.ensures.read at.sound in
+    let F = (found c.args.dbd.now c.args.volume.now (c.requires.of at.sound) f c.args.path.now i at.row c.args.code c.in_ok-ends.ends.first c.tip_of.result c.tip_of.ensures (c.in_ok-ends.ensures.first at.sound)
+    (some c.in_ok-ends.ends.first c.if-ends-eq0.false) (c.requires.typed at.sound)) in
+    let same = after-read d u v c.in_ok-ends.ensures.read at.sound in
     let twin : c.in_ok-around.around.from ≡ address_from d.types f c.args.key.now F.first
     = from_row d.types m f G c.args.key.now F.first c.in_ok-around.around.from F.within
     (subst (λ x. IsTwinFrom d.types m c.args.key.now x c.in_ok-around.around.from) F.at
-    (subst (λ k. IsTwinFrom d.types k c.args.key.now c.in_ok-child.child c.in_ok-around.around.from) same.links (c.in_ok-around.ensures.from same.sound))) in
+    (subst (λ k. IsTwinFrom d.types k c.args.key.now c.in_ok-ends.ends.first c.in_ok-around.around.from) same.links (c.in_ok-around.ensures.from same.sound))) in
     let T = child_from d.types f i c.args.code at.row.within c.args.key.now F.first F.is_first c.in_ok-around.around.from (some c.in_ok-around.around.from c.if-around-eq0.false) twin in
     let P = from_parts d.types (rows_of f) i c.args.code at.row.within c.args.key.now T.1.first T.0 T.1.is_first T.1.from in
     let is : c.push.new.self ≡ path_at d.types f T.0

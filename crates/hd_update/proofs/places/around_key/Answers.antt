@@ -1,17 +1,16 @@
-use Rattle.std.proofs.Common.{◌≡◌, ℕ, ◌<◌, IsTrue, Some, ap, sym, ◌∙◌, subst, arith, inl, refl}
+use Rattle.std.proofs.Common.{◌≡◌, ℕ, ◌<◌, IsTrue, ap, sym, ◌∙◌, subst, arith, inl, refl}
 use Rattle.hd_dbd.specs.Hierarchy.{Database}
 use Rattle.hd_dbd.specs.Segment.{Segment}
 use Rattle.hd_dbd.specs.Rows.{key_of}
 use Rattle.hd_volume.specs.Volumes.{VolumeState}
-use Rattle.hd_volume.proofs.CallSteps.{if-ok, reads-join}
+use Rattle.hd_volume.proofs.CallSteps.{if-ok}
 use Rattle.hd_links.specs.Links.{Links, IsSegment}
 use Rattle.hd_image.specs.Records.{links_of}
 use Rattle.hd_forest.specs.Twins.{IsLastBelow}
 use Rattle.hd_forest.specs.TwinPlaces.{twin_places}
 use Rattle.hd_forest.proofs.Held.{held}
-use Rattle.hd_forest.proofs.Reading.{after-read, volume-kept, links-kept, sound-before}
 use Rattle.hd_update.specs.Places.{HasParent}
-use Rattle.hd_update.proofs.PlaceChains.{some_of}
+use Rattle.hd_update.proofs.PlaceChains.{some_of, last_of_ends}
 use Rattle.hd_update.proofs.places.around_key.Goals as goal
 
 -- the first twin below a parent is a segment of the type
@@ -24,48 +23,36 @@ first_there d v h code first has ne sound is =
     let T = (held d v P.volume.fit P.volume P.forest).linked.typed.first h code P.here P.typed some in
     subst (λ x. IsSegment m x × (m.code x ≡ code)) (sym is) (record { some = some; here = T.0 }, T.1)
 
-pub returns-then-first-eq0-clause-value : goal.returns-then-first-eq0-clause-value
-returns-then-first-eq0-clause-value g c sound = record {
-  behind = inl (refl, sym (c.in_ok-first.ensures.value sound) ∙ c.if-first-eq0.true);
+pub returns-then-ends-eq0-clause-value : goal.returns-then-ends-eq0-clause-value
+returns-then-ends-eq0-clause-value g c sound = record {
+  behind = inl (refl, sym (c.requires.ends sound).0 ∙ c.if-ends-eq0.true);
   below = λ some. absurd (omega arith);
 }
 
-pub twins_around-requires-clause-of : goal.twins_around-requires-clause-of
-twins_around-requires-clause-of g c = volume-kept c.args.dbd.now c.args.volume.now c.first_child.new.volume c.in_ok-first.ensures.read (λ sound. (c.requires.parent sound).volume)
+pub twins_around_between-requires-clause-of : goal.twins_around_between-requires-clause-of
+twins_around_between-requires-clause-of g c sound = (c.requires.parent sound).volume
 
-pub twins_around-requires-clause-holds : goal.twins_around-requires-clause-holds
-twins_around-requires-clause-holds g c now =
-    let d = c.args.dbd.now in
-    let u = c.args.volume.now in
-    let sound = sound-before u c.first_child.new.volume c.in_ok-first.ensures.read now in
-    (after-read d u c.first_child.new.volume c.in_ok-first.ensures.read sound).forest (c.requires.parent sound).forest
+pub twins_around_between-requires-clause-holds : goal.twins_around_between-requires-clause-holds
+twins_around_between-requires-clause-holds g c sound = (c.requires.parent sound).forest
 
-pub twins_around-requires-clause-there : goal.twins_around-requires-clause-there
-twins_around-requires-clause-there g c =
-    let d = c.args.dbd.now in
-    let u = c.args.volume.now in
-    links-kept d (λ m. IsSegment m c.in_ok-first.first) u c.first_child.new.volume c.in_ok-first.ensures.read
-    (λ sound. (first_there d u c.args.parent c.args.code c.in_ok-first.first c.requires.parent c.if-first-eq0.false sound (c.in_ok-first.ensures.value sound)).0)
+pub twins_around_between-requires-clause-there : goal.twins_around_between-requires-clause-there
+twins_around_between-requires-clause-there g c sound =
+    (first_there c.args.dbd.now c.args.volume.now c.args.parent c.args.code c.args.ends.first c.requires.parent c.if-ends-eq0.false sound (c.requires.ends sound).0).0
 
-pub twins_around-requires-clause-places : goal.twins_around-requires-clause-places
-twins_around-requires-clause-places g c =
-    let d = c.args.dbd.now in
-    let u = c.args.volume.now in
-    links-kept d (λ m. twin_places d.types (m.code c.in_ok-first.first) ≡ Some c.args.places) u c.first_child.new.volume c.in_ok-first.ensures.read
-    (λ sound.
-    ap (twin_places d.types) (first_there d u c.args.parent c.args.code c.in_ok-first.first c.requires.parent c.if-first-eq0.false sound (c.in_ok-first.ensures.value sound)).1
-    ∙ c.requires.places)
+pub twins_around_between-requires-clause-last : goal.twins_around_between-requires-clause-last
+twins_around_between-requires-clause-last g c sound some = (last_of_ends c.args.dbd.now c.args.volume.now c.args.parent c.args.code c.args.ends c.requires.parent c.requires.ends some sound).chain
 
-pub returns-clause-read : goal.returns-clause-read
-returns-clause-read g c = reads-join c.twins_around.result c.in_ok-first.ensures.read c.twins_around.ensures.read
+pub twins_around_between-requires-clause-places : goal.twins_around_between-requires-clause-places
+twins_around_between-requires-clause-places g c sound =
+    ap (twin_places c.args.dbd.now.types)
+    (first_there c.args.dbd.now c.args.volume.now c.args.parent c.args.code c.args.ends.first c.requires.parent c.if-ends-eq0.false sound (c.requires.ends sound).0).1
+    ∙ c.requires.places
 
 pub returns-clause-value : goal.returns-clause-value
-returns-clause-value g c = if-ok c.twins_around.result c.twins_around.ensures.before
+returns-clause-value g c = if-ok c.twins_around_between.result c.twins_around_between.ensures.before
     (λ r value sound.
     let d = c.args.dbd.now in
     let m : Links = links_of d.types c.args.volume.now in
     let row : Segment = record { code = c.args.code; bytes = c.args.bytes.now } in
-    let same = after-read d c.args.volume.now c.first_child.new.volume c.in_ok-first.ensures.read sound in
-    subst (λ p. IsLastBelow d.types m (key_of d.types row) p r.before r.from) (c.in_ok-first.ensures.value sound)
-    (subst (λ key. IsLastBelow d.types m key c.in_ok-first.first r.before r.from) c.key_of.ensures.value
-    (subst (λ (k : Links). IsLastBelow d.types k c.key_of.result.now c.in_ok-first.first r.before r.from) same.links (value same.sound))))
+    subst (λ p. IsLastBelow d.types m (key_of d.types row) p r.before r.from) (c.requires.ends sound).0
+    (subst (λ key. IsLastBelow d.types m key c.args.ends.first r.before r.from) c.key_of.ensures.value (value sound)))

@@ -8,8 +8,8 @@ use Rattle.hd_forest.specs.declared.twins.TwinsAround.{TwinsAround}
 use Rattle.hd_forest.specs.Twins.{IsTwinFrom, IsLastBelow}
 use Rattle.hd_forest.proofs.Reading.{after-read, sound-before}
 use Rattle.hd_forest.proofs.BlockTwins.{HasCome, comes-none, block-there, walked-in, around-all, around-to, block-kept, walk-before, equal-before}
-use Rattle.hd_forest.proofs.twins.twins_around.Given.{Over}
-use Rattle.hd_forest.proofs.twins.twins_around.Goals as goal
+use Rattle.hd_forest.proofs.twins.around_by_number.Given.{Over}
+use Rattle.hd_forest.proofs.twins.around_by_number.Goals as goal
 
 -- a number that is not 0
 some : (n : ℕ) → (n ≡ 0 → ⊥) → 0 < n

@@ -4,7 +4,7 @@ use Rattle.hd_volume.specs.Calls.{IsRead}
 use Rattle.hd_links.specs.Placed.{Placed, Holds}
 use Rattle.hd_image.specs.Records.{links_of}
 use Rattle.hd_forest.proofs.BlockTwins.{HasCome}
-use Rattle.hd_forest.proofs.twins.twins_around.Given as goal
+use Rattle.hd_forest.proofs.twins.around_by_number.Given as goal
 
 -- it has read, and passed over a twin a turn at least
 abbrev pub invariant-loop-count : goal.invariant-loop-count

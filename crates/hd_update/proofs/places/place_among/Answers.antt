@@ -12,7 +12,7 @@ use Rattle.hd_forest.proofs.Reading.{after-read, volume-kept, links-kept}
 use Rattle.hd_forest.proofs.Tips.{end-within}
 use Rattle.hd_update.specs.Places.{side_at, HasParent}
 use Rattle.hd_update.proofs.PlaceChains.{reached, chain_typed, keyless, some_of, within_behind, below_behind}
-use Rattle.hd_update.proofs.places.place_from_first.Goals as goal
+use Rattle.hd_update.proofs.places.place_among.Goals as goal
 
 pub place_without_key-requires-clause-without : goal.place_without_key-requires-clause-without
 place_without_key-requires-clause-without g c = keyless c.args.dbd.now.types c.args.code (sym c.twin_places.ensures ∙ c.in_default.is)

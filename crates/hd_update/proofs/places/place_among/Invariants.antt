@@ -4,7 +4,7 @@ use Rattle.hd_image.specs.Records.{links_of}
 use Rattle.hd_forest.specs.Twins.{IsTwinWithin, IsBehind}
 use Rattle.hd_update.specs.declared.places.Side.TheVariants.{Behind}
 use Rattle.hd_update.specs.Places.{side_at}
-use Rattle.hd_update.proofs.places.place_from_first.Given as goal
+use Rattle.hd_update.proofs.places.place_among.Given as goal
 
 -- the row goes behind the twins that were passed, and the last of them stands before the one that comes next
 abbrev pub invariant-loop : goal.invariant-loop
