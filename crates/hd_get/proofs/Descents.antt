@@ -1,8 +1,8 @@
--- Going down by the keys that arguments ask for passes over no row that they name.
+-- Going down by the keys and to the last twins that arguments ask for passes over no row that they name.
 use Rattle.std.proofs.Common.{◌≡◌, ℕ, zero, suc, ◌+◌, ◌-◌, ◌<◌, ◌≤◌, List, [], ◌∷◌, ◌++◌, length, Bool, true, false, Option, Some, None, refl, sym, ap, subst, ◌∙◌, arith, inl, inr}
-use Rattle.std.specs.Prelude.{◌==◌, ◌&&◌, ◌||◌, not, cond, map, slice_index, slice_index_or, unwrap_or, option_and_then}
-use Rattle.std.specs.Option.{option_eq, option_map_or}
-use Rattle.std.specs.List.{list_all}
+use Rattle.std.specs.Prelude.{◌==◌, ◌&&◌, ◌||◌, not, map, slice_index, slice_index_or, unwrap_or, option_and_then, IfSome}
+use Rattle.std.specs.Option.{option_map_or}
+use Rattle.std.specs.List.{list_all, list_any}
 use Rattle.std.specs.Ordering.{nat_cmp, is_eq}
 use Rattle.std.specs.Cmp.Lexicographic.{slice_cmp, bytes_decides}
 use Rattle.std.proofs.lemmas.List.Folds.{list_all-append}
@@ -21,9 +21,9 @@ use Rattle.hd_dbd.proofs.LevelLaw.{typed}
 use Rattle.hd_dbd.proofs.Levels.{type_within}
 use Rattle.hd_dbd.proofs.Names.{option_eq-Decides}
 use Rattle.hd_volume.specs.Volumes.{VolumeState}
-use Rattle.hd_links.specs.Links.{is_child_type}
+use Rattle.hd_links.specs.Links.{Links, is_child_type, is_last_kept}
 use Rattle.hd_links.specs.Placed.{Placed}
-use Rattle.hd_links.specs.Steps.{rows_of, address_at, path_at}
+use Rattle.hd_links.specs.Steps.{rows_of, address_at, path_at, is_child_row}
 use Rattle.hd_image.specs.Records.{links_of, IsVolumeOf}
 use Rattle.hd_forest.specs.Walks.{tip}
 use Rattle.hd_forest.specs.Rows.{IsOnRow}
@@ -31,20 +31,23 @@ use Rattle.hd_forest.specs.Twins.{is_key_below}
 use Rattle.hd_calls.specs.Ssas.{Ssa, target_code}
 use Rattle.hd_calls.specs.Satisfies.{qualifies, is_last_so, meets, is_named}
 use Rattle.hd_calls.specs.Gets.{first_child}
+use Rattle.hd_calls.specs.SearchTwins.{next_twin}
+use Rattle.hd_calls.specs.SearchWays.{way_down}
 use Rattle.hd_calls.specs.Admits.{NonePass, AreRowsOf, AreOnWay, Descend, meets_own, admits, all_admitted, is_on_way}
 use Rattle.hd_calls.proofs.Admitting.{named_admitted}
 use Rattle.hd_calls.proofs.Searches.{least_some}
 use Rattle.hd_calls.proofs.OnPaths.{levels_are, sequence_is}
 use Rattle.hd_calls.proofs.SearchTwins.{earlier_twins_fail}
-use Rattle.hd_calls.proofs.SearchWays.{first_children, down_of, on_way_all}
-use Rattle.hd_get.specs.Asking.{least_key_of, is_from, address_from}
+use Rattle.hd_calls.proofs.SearchWays.{first_children, down_of}
+use Rattle.hd_get.specs.Asking.{asks_last, goes_to_last, least_key_of, is_from, address_from}
 use Rattle.hd_ssa.proofs.EqualKeys.{qualifies_by_key}
 use Rattle.hd_ssa.specs.EqualKeys.{key_asked}
-use Rattle.hd_get.specs.Descents.{least_child_key, IsChildFrom, key_asked_of, asks_for, ask_for, LeadsOnward}
+use Rattle.hd_get.specs.Descents.{IsChildFrom, key_asked_of, asks_for, ask_for, IsStepDown, LeadsOnward}
 use Rattle.hd_get.proofs.Spans.{child_is, parent_span, one_option}
 use Rattle.hd_get.proofs.Climbs.{path_is}
 use Rattle.hd_get.proofs.Grounds.{held_rows, grounds, tip_code}
 use Rattle.hd_get.proofs.Asking.{child_of}
+use Rattle.hd_get.proofs.LastChildren.{child_parts, none_before_children, last_admitted}
 use Rattle.hd_get.proofs.AcrossTo.{below_fails}
 
 -- an argument's type is on the way to the last one's
@@ -52,16 +55,6 @@ pub on_way_at : (types : List SegmentType) (t n : ℕ) (ssas : List Ssa) (x : Ss
 on_way_at types t n [] x all within is = absurd (omega arith)
 on_way_at types t zero (a ∷ ssas) x all within is = subst (λ (y : Ssa). is_on_way types t y.code ≡ true) (sym is) all.0
 on_way_at types t (suc n) (a ∷ ssas) x all within is = on_way_at types t n ssas x all.1 (omega arith) is
-
--- what a least key of a child type tells
-pub child_key_parts : (types : List SegmentType) (ssas : List Ssa) (above code : ℕ) (key : List ℕ) → least_child_key types ssas above code ≡ Some key
-    → (parent_of types code ≡ Some above) × (least_key_of types ssas code ≡ Some key)
-child_key_parts types ssas above code key is = by (option_eq (λ a b. a == b) (parent_of types code) (Some above)) refl is
-  where
-    by : (b : Bool) → option_eq (λ a b. a == b) (parent_of types code) (Some above) ≡ b → cond b (least_key_of types ssas code) None ≡ Some key
-        → (parent_of types code ≡ Some above) × (least_key_of types ssas code ≡ Some key)
-    by true e h = (one_option (parent_of types code) (Some above) e, h)
-    by false e h = cc
 
 module _ (types : List SegmentType) (rows : List Segment) (over : AreRowsOf types rows) (i code : ℕ) (within : i < length rows) where
   -- the type is a child type of the row's
@@ -223,6 +216,71 @@ code_at_place n [] x within is = absurd (omega arith)
 code_at_place zero (a ∷ ssas) x within is = ap (λ (y : Ssa). y.code) (sym is)
 code_at_place (suc n) (a ∷ ssas) x within is = code_at_place n ssas x (omega arith) is
 
+-- ---- one step down
+
+-- a path that stayed is that of the row
+pub stayed : (types : List SegmentType) (m : Links) (f : Forest Placed) (ssas : List Ssa) (i code : ℕ) (old new : List ℕ) → IsOnRow types m f old i → new ≡ old → IsStepDown types f ssas i code None new
+stayed types m f ssas i code old new on same = record {
+  number = i;
+  later = omega arith;
+  within = on.within;
+  none = λ j low high. absurd (omega arith);
+  is = same ∙ on.is;
+  child = tt;
+}
+
+module _ (d : Database) (v : VolumeState) (of : IsVolumeOf d v) (f : Forest Placed) (path : List ℕ) (i code : ℕ) (on : IsOnRow d.types (links_of d.types v) f path i)
+    (parent : parent_of d.types code ≡ Some ((links_of d.types v).code (tip path))) where
+  -- the parent's type is the row's
+  pub parent_is : parent_of d.types code ≡ Some (row_at (rows_of f) i).code
+  parent_is = parent ∙ ap (λ (c : ℕ). Some c) (tip_code d.types (links_of d.types v) f (grounds d v f of on.holds) path i on)
+
+  -- so the type is a child type of that
+  pub child_type_is : is_child_type d.types (row_at (rows_of f) i).code code ≡ true
+  child_type_is = child_typed d.types (rows_of f) (held_rows d v f of on.holds) i code on.within parent_is
+
+  module _ (ssas : List Ssa) (way : is_on_way d.types (target_code ssas) code ≡ true) where
+    -- down to the first child from the key on that is asked for
+    pub stepped_to_key : (key : List ℕ) → least_key_of d.types ssas code ≡ Some key → (j : ℕ) → IsChildFrom d.types f key i code j → (new : List ℕ) → new ≡ path_at d.types f j → (r : Option Bool)
+        → IfSome r (λ told. told ≡ true → admits d.types (rows_of f) ssas j ≡ true) → IsStepDown d.types f ssas i code r new
+    stepped_to_key key least j C new is r met =
+        let P = from_parts d.types (rows_of f) i code on.within key C.first j C.is_first C.from in
+        let low : i < C.first = P.later in
+        let high : C.first ≤ j = P.behind in
+        record {
+          number = j;
+          later = omega arith;
+          within = P.within;
+          none = none_below d.types (rows_of f) i code on.within key C.first j C.is_first C.from (held_rows d v f of on.holds) ssas way parent_is least;
+          is = is;
+          child = by r met (and_from _ _ ((option_eq-Decides (parent_row d.types (rows_of f) j) (Some i)).1 P.parent) (eq-eqb (row_at (rows_of f) j).code code P.code_is));
+        }
+      where
+        by : (r : Option Bool) → IfSome r (λ told. told ≡ true → admits d.types (rows_of f) ssas j ≡ true) → is_child_row d.types (rows_of f) i code j ≡ true
+            → IfSome r (λ told. (is_child_row d.types (rows_of f) i code j ≡ true) × (told ≡ true → admits d.types (rows_of f) ssas j ≡ true))
+        by None met child = tt
+        by (Some told) met child = (child, met)
+
+    -- down to the last child, where that is asked for
+    pub stepped_to_last : Descend d.types None ssas → goes_to_last d.types ssas code ≡ true → (j : ℕ) → j < length (rows_of f) → is_child_row d.types (rows_of f) i code j ≡ true
+        → next_twin d.types (rows_of f) j ≡ None → (new : List ℕ) → new ≡ path_at d.types f j → IsStepDown d.types f ssas i code (Some true) new
+    stepped_to_last descend goes j within child last new is =
+        let over = held_rows d v f of on.holds in
+        let levels = levels_are d.types (rows_of f) over in
+        let P = child_parts d.types (rows_of f) i code j child in
+        let asks = (and_parts (is_last_kept d.types code) (list_any (λ a. asks_last code a) ssas) goes).1 in
+        let low : i < j = (parent_span d.types (rows_of f) j i within P.0).0 in
+        let down : way_down d.types (target_code ssas) (row_at (rows_of f) i).code ≡ Some code
+        = down_of d.types levels (target_code ssas) (row_at (rows_of f) i).code code (and_from _ _ ((option_eq-Decides (parent_of d.types code) (Some (row_at (rows_of f) i).code)).1 parent_is) way) in
+        record {
+          number = j;
+          later = omega arith;
+          within = within;
+          none = none_before_children d.types (rows_of f) ssas i code over on.within down asks j within child;
+          is = is;
+          child = (child, λ e. last_admitted d.types levels (rows_of f) j code P.1 last None ssas descend asks);
+        }
+
 -- ---- one level further down
 
 -- A path goes down from row i to a later row, and none that the SSAs name is before that; where so much is told, what is on the way is admitted.
@@ -232,55 +290,48 @@ pub record HasCome (d : Database) (v : VolumeState) (f : Forest Placed) (ssas : 
   pub row : IsOnRow d.types (links_of d.types v) f path number
   pub admitted : told ≡ true → all_admitted d.types (rows_of f) ssas i ≡ true → all_admitted d.types (rows_of f) ssas number ≡ true
 
-module _ (d : Database) (v : VolumeState) (of : IsVolumeOf d v) (f : Forest Placed) (ssas : List Ssa) (descend : Descend d.types None ssas) (n above : ℕ) (path : List ℕ)
-    (on : IsOnRow d.types (links_of d.types v) f path n) (is_above : (links_of d.types v).code (tip path) ≡ above) (code : ℕ) (key : List ℕ) (least : least_child_key d.types ssas above code ≡ Some key) where
-  -- the parent's type is the row's
-  pub parent_is : parent_of d.types code ≡ Some (row_at (rows_of f) n).code
-  parent_is =
-      let G = grounds d v f of on.holds in
-      (child_key_parts d.types ssas above code key least).0 ∙ ap (λ (c : ℕ). Some c) (sym is_above ∙ tip_code d.types (links_of d.types v) f G path n on)
+module _ (d : Database) (v : VolumeState) (f : Forest Placed) (ssas : List Ssa) (i n code : ℕ) (told : Bool) (old new : List ℕ) (come : HasCome d v f ssas i told old n) where
+  -- none is named before the row that a step leads to
+  none_further : (r : Option Bool) (S : IsStepDown d.types f ssas n code r new) → NonePass (is_named d.types (rows_of f) ssas) i S.number
+  none_further r S k low high = elim (cases_lt k n) [
+    | inl early ↦ come.none k low early
+    | inr late ↦ S.none k late high
+  ]
 
-  module _ (new : List ℕ) (j : ℕ) (C : IsChildFrom d.types f key n code j) (new_is : new ≡ path_at d.types f j) where
-    pub new_row : IsOnRow d.types (links_of d.types v) f new j
-    new_row = record { holds = on.holds; within = (from_parts d.types (rows_of f) n code on.within key C.first j C.is_first C.from).within; is = new_is }
+  -- that row's path
+  row_further : (r : Option Bool) (S : IsStepDown d.types f ssas n code r new) → IsOnRow d.types (links_of d.types v) f new S.number
+  row_further r S = record { holds = come.row.holds; within = S.within; is = S.is }
 
-    pub new_code : (links_of d.types v).code (tip new) ≡ code
-    new_code =
-        let G = grounds d v f of on.holds in
-        tip_code d.types (links_of d.types v) f G new j new_row ∙ (from_parts d.types (rows_of f) n code on.within key C.first j C.is_first C.from).code_is
+  -- a step that is the last
+  pub come_so_far : (r : Option Bool) → IsStepDown d.types f ssas n code r new → LeadsOnward d v f ssas i false new
+  come_so_far r S =
+      let a : i ≤ n = come.later in
+      let b : n ≤ S.number = S.later in
+      record { number = S.number; later = omega arith; none = none_further r S; row = row_further r S; named = λ e all. absurd (false≢true e) }
 
-    pub further : (place : ℕ) (x : Ssa) → place < length ssas → x ≡ slice_index_or ssas place x → code ≡ x.code → (i : ℕ) (told equal : Bool) → HasCome d v f ssas i told path n
-        → (equal ≡ true → key_of d.types (row_at (rows_of f) j) ≡ key) → HasCome d v f ssas i ((told && equal) && ask_for d.types ssas code key) new j
-    further place x within is own i told equal come key_is =
-        let over = held_rows d v f of on.holds in
-        let way : is_on_way d.types (target_code ssas) code ≡ true
-        = subst (λ c. is_on_way d.types (target_code ssas) c ≡ true) (sym own)
-        (on_way_at d.types (target_code ssas) place ssas x (on_way_all d.types (rows_of f) ssas (record { over = over; descend = descend })) within is) in
-        let P = from_parts d.types (rows_of f) n code on.within key C.first j C.is_first C.from in
-        let low : n < C.first = P.later in
-        let high : C.first ≤ j = P.behind in
-        let before : i ≤ n = come.later in
-        record {
-          later = omega arith;
-          none = λ k a b. elim (cases_lt k n) [
-            | inl early ↦ come.none k a early
-            | inr late ↦ none_below d.types (rows_of f) n code on.within key C.first j C.is_first C.from over ssas way parent_is (child_key_parts d.types ssas above code key least).1 k late b
-          ];
-          row = new_row;
-          admitted = λ e all. (
-              let T = three told equal (ask_for d.types ssas code key) e in
-              let follows : path_of d.types (rows_of f) j ≡ path_of d.types (rows_of f) n ++ j ∷ []
-              = path_follows d.types (rows_of f) j ∙ ap (λ (o : Option ℕ). option_map_or (λ p. path_of d.types (rows_of f) p) o [] ++ j ∷ []) P.parent in
-              ap (list_all (λ k. admits d.types (rows_of f) ssas k)) follows
-              ∙ list_all-append (λ k. admits d.types (rows_of f) ssas k) (path_of d.types (rows_of f) n) (j ∷ [])
-              ∙ and_from _ _ (come.admitted T.0 all) (and_from _ _ (admits_key d.types (rows_of f) j code ssas key P.code_is (key_is T.1) T.2) refl));
-        }
-      where
-        three : (a b c : Bool) → ((a && b) && c) ≡ true → (a ≡ true) × (b ≡ true) × (c ≡ true)
-        three true true true e = (refl, refl, refl)
-        three true true false e = cc
-        three true false c e = cc
-        three false b c e = cc
+  -- a step to a child
+  pub further : (met : Bool) (S : IsStepDown d.types f ssas n code (Some met) new) → HasCome d v f ssas i (told && met) new S.number
+  further met S =
+      let a : i ≤ n = come.later in
+      let b : n ≤ S.number = S.later in
+      record {
+        later = omega arith;
+        none = none_further (Some met) S;
+        row = row_further (Some met) S;
+        admitted = λ e all. (
+            let T = and_parts told met e in
+            let parent = (child_parts d.types (rows_of f) n code S.number S.child.0).0 in
+            let follows : path_of d.types (rows_of f) S.number ≡ path_of d.types (rows_of f) n ++ S.number ∷ []
+            = path_follows d.types (rows_of f) S.number ∙ ap (λ (o : Option ℕ). option_map_or (λ p. path_of d.types (rows_of f) p) o [] ++ S.number ∷ []) parent in
+            ap (list_all (λ k. admits d.types (rows_of f) ssas k)) follows
+            ∙ list_all-append (λ k. admits d.types (rows_of f) ssas k) (path_of d.types (rows_of f) n) (S.number ∷ [])
+            ∙ and_from _ _ (come.admitted T.0 all) (and_from _ _ (S.child.1 T.1) refl));
+      }
+
+  -- the row that it leads to is of the type
+  pub further_code : (of : IsVolumeOf d v) (met : Bool) → IsStepDown d.types f ssas n code (Some met) new → (links_of d.types v).code (tip new) ≡ code
+  further_code of met S =
+      tip_code d.types (links_of d.types v) f (grounds d v f of come.row.holds) new S.number (row_further (Some met) S) ∙ (child_parts d.types (rows_of f) n code S.number S.child.0).1
 
 -- behind the last argument the row is named, where all on its path are admitted
 pub come_to_last : (d : Database) (v : VolumeState) → IsVolumeOf d v → (f : Forest Placed) (ssas : List Ssa) → Descend d.types None ssas → (i : ℕ) (told : Bool) (path : List ℕ) (n : ℕ)
@@ -296,7 +347,3 @@ come_to_last d v of f ssas descend i told path n come code =
       named = λ e all. named_admitted d.types (rows_of f) ssas n (record { over = held_rows d v f of come.row.holds; descend = descend }) come.row.within
           ∙ and_from _ _ (eq-eqb (row_at (rows_of f) n).code (target_code ssas) own) (come.admitted e all);
     }
-
--- on the way nothing is told
-pub come_so_far : (d : Database) (v : VolumeState) (f : Forest Placed) (ssas : List Ssa) (i : ℕ) (told : Bool) (path : List ℕ) (n : ℕ) → HasCome d v f ssas i told path n → LeadsOnward d v f ssas i false path
-come_so_far d v f ssas i told path n come = record { number = n; later = come.later; none = come.none; row = come.row; named = λ e all. absurd (false≢true e) }

@@ -3,14 +3,14 @@ use Rattle.std.proofs.Common.{◌≡◌, ◌≢◌, ℕ, zero, suc, ◌+◌, ◌
 use Rattle.std.specs.Prelude.{◌&&◌, ◌||◌, ◌==◌, not, nat_lt, is_none, is_some, option_and_then, unwrap_or}
 use Rattle.std.specs.Option.{option_map_or}
 use Rattle.std.specs.List.{list_any}
-use Rattle.std.proofs.lemmas.Bool.{cases_lt, cond-true, lt-ltb, and_parts, and_from, or_cases, eq-eqb, eqb-true, ne_eqb, false≢true}
+use Rattle.std.proofs.lemmas.Bool.{cases_lt, cond-true, lt-ltb, and_parts, and_from, or_cases, or_right, eq-eqb, eqb-true, ne_eqb, false≢true}
 use Rattle.hd_dbd.specs.Types.{SegmentType}
-use Rattle.hd_dbd.specs.Hierarchy.{parent_of}
+use Rattle.hd_dbd.specs.Hierarchy.{parent_of, level_of}
 use Rattle.hd_dbd.specs.Segment.{Segment}
 use Rattle.hd_dbd.specs.Paths.{row_at, parent_row, end_of, is_twin}
 use Rattle.hd_dbd.specs.Forest.{Forest}
 use Rattle.hd_dbd.proofs.Fitting.{IsEarlier}
-use Rattle.hd_dbd.proofs.LevelLaw.{parents_earlier, typed}
+use Rattle.hd_dbd.proofs.LevelLaw.{Leveled, parents_earlier, typed}
 use Rattle.hd_dbd.proofs.Names.{option_eq-Decides}
 use Rattle.hd_links.specs.Links.{Links, is_child_type}
 use Rattle.hd_links.specs.Placed.{Placed}
@@ -18,19 +18,20 @@ use Rattle.hd_links.specs.Pointers.{IsTwinAfter}
 use Rattle.hd_links.specs.Steps.{rows_of, address_at, path_at, is_child_row, RowsHaveAddresses, StepsAreRows}
 use Rattle.hd_forest.specs.Twins.{IsBehind}
 use Rattle.hd_calls.specs.Ssas.{Ssa, target_code}
-use Rattle.hd_calls.specs.Satisfies.{qualifies, is_last_so, is_named, is_child}
+use Rattle.hd_calls.specs.Satisfies.{qualifies, is_last_so, meets, is_named, is_child}
 use Rattle.hd_calls.specs.Gets.{first_child}
 use Rattle.hd_calls.proofs.Searches.{least_some, least_no, least_passed}
 use Rattle.hd_calls.proofs.Spans.{end_is}
-use Rattle.hd_calls.specs.Admits.{NonePass, AreRowsOf, admits, meets_own, is_on_way}
+use Rattle.hd_calls.specs.Admits.{NonePass, AreRowsOf, Descend, admits, meets_own, is_on_way}
 use Rattle.hd_calls.specs.SearchWays.{way_down}
 use Rattle.hd_calls.proofs.OnPaths.{levels_are, sequence_is, spans_parent, way_spans, child_under}
+use Rattle.hd_calls.proofs.Resolving.{under_level}
 use Rattle.hd_calls.proofs.Failing.{unnamed_by, spans_fail}
 use Rattle.hd_calls.proofs.SearchWays.{down_found, down_parts}
 use Rattle.hd_get.specs.Asking.{asks_last}
 use Rattle.hd_calls.specs.SearchTwins.{next_twin}
 use Rattle.hd_get.specs.Searches.{EndsAt, child_or_end, GoesOn, GoesToLast, IsWayBesideToLast, is_above_admitted}
-use Rattle.hd_get.proofs.LastTwins.{last_so_unqualified}
+use Rattle.hd_get.proofs.LastTwins.{has_unasked, last_so_unqualified}
 use Rattle.hd_get.proofs.Spans.{nested, parent_span, twin_is, child_is, one_option, above_child, above_parent}
 use Rattle.hd_get.proofs.Climbs.{path_is, child_same, child_none, child_some, twin_none, twin_some}
 use Rattle.hd_get.proofs.Turns.{ends_within, parent_ends}
@@ -50,6 +51,11 @@ child_from types rows i code j parent is = and_from _ _ ((option_eq-Decides (par
 
 -- ---- by rows
 
+-- what is said to be none is none
+is_none_so : {A : Type 0} → (o : Option A) → is_none o ≡ true → o ≡ None
+is_none_so None e = refl
+is_none_so (Some x) e = cc
+
 -- a row with a later twin does not meet an argument that asks for the last
 unmet_before : (types : List SegmentType) (rows : List Segment) (k j : ℕ) → k < j → j < length rows → is_twin types rows k j ≡ true → (row_at rows k).code ≢ 1
     → (a : Ssa) → asks_last (row_at rows k).code a ≡ true → meets_own types rows k a ≡ false
@@ -58,7 +64,7 @@ unmet_before types rows k j before within twin other a asks =
     let Q = and_parts (a.code == (row_at rows k).code) a.commands.last P.0 in
     let code : a.code ≡ (row_at rows k).code = eqb-true a.code (row_at rows k).code Q.0 in
     let later : is_last_so types rows a k ≡ false
-    = last_so_unqualified types rows a k (none a P.1)
+    = last_so_unqualified types rows a k (is_none_so a.groups P.1)
     ∙ not_some _ (least_passed (λ x. is_twin types rows k x) (length rows - (k + 1)) (k + 1) j (omega arith) (omega arith) twin) in
     ap (λ b. not b || (qualifies a (row_at rows k) && (not a.commands.last || a.code == 1 || is_last_so types rows a k))) Q.0
     ∙ ap (λ b. qualifies a (row_at rows k) && (not b || a.code == 1 || is_last_so types rows a k)) Q.1
@@ -66,13 +72,6 @@ unmet_before types rows k j before within twin other a asks =
     ∙ ap (λ b. qualifies a (row_at rows k) && b) later
     ∙ and_no (qualifies a (row_at rows k))
   where
-    none : (a : Ssa) → is_none a.groups ≡ true → a.groups ≡ None
-    none a e = by a.groups e
-      where
-        by : {A : Type 0} → (o : Option A) → is_none o ≡ true → o ≡ None
-        by None e = refl
-        by (Some x) e = cc
-
     not_some : (o : Option ℕ) → is_some o ≡ true → is_none o ≡ false
     not_some None e = cc
     not_some (Some x) e = refl
@@ -116,6 +115,56 @@ none_before_children types rows ssas i c over within way asks j jw child r from 
         = subst (λ (o : Option ℕ). IsEarlier o (row_at rows k).code) parent (parents_earlier over.block_size over.free_space types (row_at rows k).code T.0 over.formed T.1) in
         let low = early.0 in
         let high = early.1 in absurd (omega arith)
+
+-- the type of what an argument asks the last of
+asked_code : {c : ℕ} (a : Ssa) → asks_last c a ≡ true → a.code ≡ c
+asked_code {c} a asks = eqb-true a.code c (and_parts (a.code == c) a.commands.last (and_parts (a.code == c && a.commands.last) (is_none a.groups) asks).0).0
+
+-- the last twin meets an argument that asks for the last alone
+met_by_last : (types : List SegmentType) (rows : List Segment) (j : ℕ) → next_twin types rows j ≡ None → (a : Ssa) → asks_last (row_at rows j).code a ≡ true → meets_own types rows j a ≡ true
+met_by_last types rows j last a asks =
+    let none = is_none_so a.groups (and_parts (a.code == (row_at rows j).code && a.commands.last) (is_none a.groups) asks).1 in
+    or_right (not (a.code == (row_at rows j).code)) _ (and_from _ _ (has_unasked a (row_at rows j) none)
+    (ap (λ b. not a.commands.last || a.code == 1 || b) (last_so_unqualified types rows a j none ∙ ap is_none last) ∙ one_is (not a.commands.last) (a.code == 1)))
+  where
+    one_is : (x y : Bool) → (x || y || true) ≡ true
+    one_is true y = refl
+    one_is false true = refl
+    one_is false false = refl
+
+module _ (types : List SegmentType) (levels : Leveled types) (rows : List Segment) (j c : ℕ) (own : (row_at rows j).code ≡ c) where
+  -- an argument of a type of another level asks nothing of the row
+  passes_other : (a : Ssa) → level_of types a.code ≢ level_of types c → meets_own types rows j a ≡ true
+  passes_other a other = ap (λ b. not b || meets types rows a j) (ne_eqb a.code (row_at rows j).code (λ e. other (ap (level_of types) (e ∙ own))))
+
+  -- nor do arguments of types below
+  pass_below : (p : ℕ) (ssas : List Ssa) → level_of types c ≤ level_of types p → Descend types (Some p) ssas → admits types rows ssas j ≡ true
+  pass_below p [] deep d = refl
+  pass_below p (a ∷ ssas) deep d =
+      let more : level_of types p < level_of types a.code = under_level types levels (level_of types a.code) a.code p d.0 in
+      and_from _ _ (passes_other a (λ e. absurd (omega arith))) (pass_below a.code ssas (omega arith) d.1)
+
+  -- a type that an argument below another's asks the last of is deeper
+  deeper : (p : ℕ) (ssas : List Ssa) → Descend types (Some p) ssas → list_any (λ a. asks_last c a) ssas ≡ true → level_of types p < level_of types c
+  deeper p [] d e = cc
+  deeper p (a ∷ ssas) d e =
+      let more : level_of types p < level_of types a.code = under_level types levels (level_of types a.code) a.code p d.0 in
+      elim (or_cases (asks_last c a) (list_any (λ a. asks_last c a) ssas) e) [
+        | inl here ↦ (let same : level_of types a.code ≡ level_of types c = ap (level_of types) (asked_code a here) in omega arith)
+        | inr behind ↦ (let less : level_of types a.code < level_of types c = deeper a.code ssas d.1 behind in omega arith)
+      ]
+
+  -- Where an argument asks for the last twin of the type alone, that twin meets the arguments of its type.
+  pub last_admitted : next_twin types rows j ≡ None → (above : Option ℕ) (ssas : List Ssa) → Descend types above ssas → list_any (λ a. asks_last c a) ssas ≡ true → admits types rows ssas j ≡ true
+  last_admitted last above [] d e = cc
+  last_admitted last above (a ∷ ssas) d e = elim (or_cases (asks_last c a) (list_any (λ a. asks_last c a) ssas) e) [
+    | inl here ↦
+        (let same : level_of types a.code ≡ level_of types c = ap (level_of types) (asked_code a here) in
+        and_from _ _ (met_by_last types rows j last a (subst (λ x. asks_last x a ≡ true) (sym own) here)) (pass_below a.code ssas (omega arith) d.1))
+    | inr behind ↦
+        (let less : level_of types a.code < level_of types c = deeper a.code ssas d.1 behind in
+        and_from _ _ (passes_other a (λ e. absurd (omega arith))) (last_admitted last (Some a.code) ssas d.1 behind))
+  ]
 
 -- no child of a type stands before the first one
 pub first_before : (types : List SegmentType) (rows : List Segment) (q c j : ℕ) → q < j → j < end_of types rows q → is_child_row types rows q c j ≡ true → child_or_end types rows q c ≤ j

@@ -32,15 +32,16 @@ pub same_search : (test other : ℕ → Bool) → ((j : ℕ) → test j ≡ othe
 same_search test other same zero i = refl
 same_search test other same (suc n) i = ap₂ (λ b o. cond b (Some i) o) (same i) (same_search test other same n (i + 1))
 
--- each twin has what is not asked
+-- each row has what is not asked
+pub has_unasked : (a : Ssa) (r : Segment) → a.groups ≡ None → qualifies a r ≡ true
+has_unasked a r none = ap (λ (o : Option (List (List Comparison))). option_map_or (λ groups. list_any (λ group. list_all (λ c. is_true_of r.bytes c) group) groups) o true) none
+
 pub last_so_unqualified : (types : List SegmentType) (rows : List Segment) (a : Ssa) (i : ℕ) → a.groups ≡ None → is_last_so types rows a i ≡ is_none (next_twin types rows i)
 last_so_unqualified types rows a i none =
-    ap is_none (same_search (λ j. is_twin types rows i j && qualifies a (row_at rows j)) (λ j. is_twin types rows i j) (λ j. ap (λ b. is_twin types rows i j && b) (all j) ∙ and_true (is_twin types rows i j))
+    ap is_none (same_search (λ j. is_twin types rows i j && qualifies a (row_at rows j)) (λ j. is_twin types rows i j)
+    (λ j. ap (λ b. is_twin types rows i j && b) (has_unasked a (row_at rows j) none) ∙ and_true (is_twin types rows i j))
     (length rows - (i + 1)) (i + 1))
   where
-    all : (j : ℕ) → qualifies a (row_at rows j) ≡ true
-    all j = ap (λ (o : Option (List (List Comparison))). option_map_or (λ groups. list_any (λ group. list_all (λ c. is_true_of (row_at rows j).bytes c) group) groups) o true) none
-
     and_true : (b : Bool) → (b && true) ≡ b
     and_true true = refl
     and_true false = refl

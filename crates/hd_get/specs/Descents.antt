@@ -1,31 +1,27 @@
--- Going down from a root by the keys that segment search arguments ask for.
-use Rattle.std.specs.Prelude.{◌≡◌, ℕ, ◌≤◌, List, [], ◌∷◌, length, Bool, true, false, not, ◌==◌, ◌&&◌, ◌||◌, cond, Option, Some, None, option_and_then}
-use Rattle.std.specs.Option.{option_eq, option_map_or}
+-- Going down from a root by the keys and to the last twins that segment search arguments ask for.
+use Rattle.std.specs.Prelude.{◌≡◌, ℕ, ◌<◌, ◌≤◌, List, [], ◌∷◌, length, Bool, true, false, not, ◌==◌, ◌&&◌, ◌||◌, Option, Some, None, IfSome, option_and_then}
+use Rattle.std.specs.Option.{option_map_or}
 use Rattle.std.specs.List.{list_all}
 use Rattle.std.specs.Ordering.{nat_cmp, is_eq}
 use Rattle.std.specs.Cmp.Lexicographic.{slice_cmp}
 use Rattle.hd_dbd.specs.Types.{SegmentType}
-use Rattle.hd_dbd.specs.Hierarchy.{Database, parent_of, type_of}
+use Rattle.hd_dbd.specs.Hierarchy.{Database, type_of}
 use Rattle.hd_dbd.specs.Paths.{row_at}
 use Rattle.hd_dbd.specs.Rows.{key_of}
 use Rattle.hd_dbd.specs.Searches.{first_from}
 use Rattle.hd_dbd.specs.Forest.{Forest}
 use Rattle.hd_volume.specs.Volumes.{VolumeState}
 use Rattle.hd_links.specs.Placed.{Placed}
-use Rattle.hd_links.specs.Steps.{rows_of, path_at}
+use Rattle.hd_links.specs.Steps.{rows_of, path_at, is_child_row}
 use Rattle.hd_image.specs.Records.{links_of}
 use Rattle.hd_forest.specs.Rows.{IsOnRow}
-use Rattle.hd_calls.specs.Ssas.{Ssa}
+use Rattle.hd_calls.specs.Ssas.{Ssa, target_code}
 use Rattle.hd_calls.specs.Satisfies.{is_named}
 use Rattle.hd_calls.specs.Gets.{first_child}
-use Rattle.hd_calls.specs.Admits.{NonePass, admits, all_admitted}
+use Rattle.hd_calls.specs.Admits.{NonePass, is_on_way, admits, all_admitted}
 use Rattle.hd_ssa.specs.EqualKeys.{key_asked}
-use Rattle.hd_get.specs.Asking.{least_key_of, is_from}
+use Rattle.hd_get.specs.Asking.{is_from}
 use Rattle.hd_get.specs.Searches.{IsPathOf}
-
--- of a child type of a type, the key below which no row has what the argument of the type asks, if that tells of one
-abbrev pub least_child_key : List SegmentType → List Ssa → ℕ → ℕ → Option (List ℕ)
-least_child_key types ssas above code = cond (option_eq (λ a b. a == b) (parent_of types code) (Some above)) (least_key_of types ssas code) None
 
 -- Row j is the first of the children of row i, of a type, whose key is not below a key.
 pub record IsChildFrom (types : List SegmentType) (f : Forest Placed) (key : List ℕ) (i code j : ℕ) : Type 0 where
@@ -54,6 +50,21 @@ asks_for types key a = not a.commands.last && option_map_or (λ v. is_eq (slice_
 -- so does each argument of a type
 abbrev pub ask_for : List SegmentType → List Ssa → ℕ → List ℕ → Bool
 ask_for types ssas code key = list_all (λ a. not (a.code == code) || asks_for types key a) ssas
+
+-- The path is that of row i or of a later one, and of the rows from row i on none before it is named by the SSAs. Where the row is told of, it is a child
+-- of row i, of a type, and where it is told that the SSAs admit it, they do.
+pub record IsStepDown (types : List SegmentType) (f : Forest Placed) (ssas : List Ssa) (i code : ℕ) (told : Option Bool) (path : List ℕ) : Type 0 where
+  pub number : ℕ
+  pub later : i ≤ number
+  pub within : number < length (rows_of f)
+  pub none : NonePass (is_named types (rows_of f) ssas) i number
+  pub is : path ≡ path_at types f number
+  pub child : IfSome told (λ known. (is_child_row types (rows_of f) i code number ≡ true) × (known ≡ true → admits types (rows_of f) ssas number ≡ true))
+
+-- wherever the old path was that of a row, and the type is on the way to the last SSA's, the new one is a step down from it
+abbrev pub StepsDown : Database → VolumeState → List Ssa → ℕ → List ℕ → Option Bool → List ℕ → Type 0
+StepsDown d v ssas code old told new =
+    (f : Forest Placed) (i : ℕ) → IsPathOf d v f old i → is_on_way d.types (target_code ssas) code ≡ true → IsStepDown d.types f ssas i code told new
 
 -- The path is that of row i or of a later one, and of the rows from row i on none before it is named by the SSAs. Where it is told that they name
 -- it, they do, if all on row i's path are admitted.

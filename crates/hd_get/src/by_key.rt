@@ -1,5 +1,6 @@
-ghost use Rattle.std.specs.Prelude.{◌≡◌, true, None, IsTrue, IfOk, IfSome, option_copied};
+ghost use Rattle.std.specs.Prelude.{◌≡◌, true, None, Some, IsTrue, IfOk, IfSome, option_copied};
 ghost use Rattle.hd_dbd.specs.Refusals.{OnlyDevice};
+ghost use Rattle.hd_dbd.specs.Hierarchy.{parent_of};
 ghost use Rattle.hd_volume.specs.Calls.{IsRead};
 ghost use Rattle.hd_links.specs.Links.{is_child_type};
 ghost use Rattle.hd_image.specs.Records.{links_of};
@@ -7,13 +8,16 @@ ghost use Rattle.hd_forest.specs.Walks.{tip};
 ghost use Rattle.hd_calls.specs.Admits.{Descend};
 ghost use Rattle.hd_get.specs.Searches.{IsOf, IsThere};
 ghost use Rattle.hd_get.specs.Starts.{least_root_key, HasRoots, LeadsToRoot, BeginsUnique, RefusesRootsBelow};
-ghost use Rattle.hd_get.specs.Descents.{least_child_key, GoesBelow, key_asked_of, asks_for, ask_for, GoesOnward, AdmitsTip, is_root_first};
+ghost use Rattle.hd_get.specs.Asking.{least_key_of};
+ghost use Rattle.hd_get.specs.Descents.{GoesBelow, key_asked_of, asks_for, ask_for, StepsDown, GoesOnward, AdmitsTip, is_root_first};
 
-use crate::arguments::least_key_of;
+use crate::arguments::{goes_to_last, least_key_of};
 use crate::look::{admits_seen, look_at};
 use crate::search_starts::unique;
 use hd_dbd::{Dbd, Refused, compare_keys};
-use hd_forest::{Path, first_and_last_child, tip_of, twin_places, twins_around_between};
+use hd_forest::{
+    Path, first_and_last_child, last_child, tip_of, twin_places, twins_around_between,
+};
 use hd_index::next_from;
 use hd_ssa::ResolvedSsa;
 use hd_stores::BlockStore;
@@ -45,16 +49,6 @@ fn root_from<S: BlockStore>(volume: &mut Volume<S>, dbd: &Dbd, key: &[u8]) -> Re
     };
     path.push(address);
     Ok(path)
-}
-
-/// Of a child type of a type, the key below which no row has what the argument of the type asks, if that tells of one.
-fn least_child_key<'a>(dbd: &Dbd, ssas: &[ResolvedSsa<'a>], above: u8, code: u8) -> Option<&'a [u8]>
-    ensures { option_copied result ≡ least_child_key dbd.now.types ssas.now above code }
-{
-    if dbd.parent_of(code)? != above {
-        return None;
-    }
-    least_key_of(dbd, ssas, code)
 }
 
 /// Goes down from the last row of a path to its first child, of the type of a code, whose key is not below a key, and says whether its key is equal;
@@ -118,9 +112,94 @@ fn ask_for(dbd: &Dbd, ssas: &[ResolvedSsa<'_>], code: u8, key: &[u8]) -> bool
         .all(|ssa| ssa.code() != code || asks_for(dbd, ssa, key))
 }
 
-/// Goes down from a root, argument by argument, to the first child whose key is not below the least that the argument asks for. It stops behind a child
-/// of another key, and where a type is left out, an argument tells of no key, or there is no such child. Says whether the arguments are known to name
-/// the row where it came, if the root meets its own: each was gone by, and asks for the key that was found and nothing else.
+/// Goes down from the last row of a path to its first child, of the type of a code, whose key is not below the least that the argument of that type asks
+/// for. `Some` where the key is equal, and then whether that is known to be all that is asked; `None` where the key is another, and where there is no
+/// such child or the type has no key. The row is read, and the blocks of the twins up to that child.
+fn step_to_key<S: BlockStore>(
+    volume: &mut Volume<S>,
+    dbd: &Dbd,
+    ssas: &[ResolvedSsa<'_>],
+    code: u8,
+    key: &[u8],
+    path: &mut Path,
+) -> Result<Option<bool>, Refused>
+    requires of { IsOf dbd.now volume.old }
+    requires there { IsThere dbd.now volume.old path.old }
+    requires parent { IsTrue volume.old.is_sound → parent_of dbd.now.types code ≡ Some ((links_of dbd.now.types volume.old).code (tip path.old)) }
+    requires least { least_key_of dbd.now.types ssas.now code ≡ Some key.now }
+    ensures read { IsRead volume.old result volume.new }
+    ensures value { IfOk result (λ r. StepsDown dbd.now volume.old ssas.now code path.old r path.new) }
+    ensures refusal { OnlyDevice result }
+{
+    let Some(is_equal) = go_below(volume, dbd, code, key, path)? else {
+        return Ok(None);
+    };
+    if !is_equal {
+        return Ok(None);
+    }
+    Ok(Some(ask_for(dbd, ssas, code, key)))
+}
+
+/// Goes down from the last row of a path to its last child, of the type of a code, where the last twin alone is asked for and parents keep it, which is
+/// then all that is asked; `None`, with the path as it was, where not, and where there is no such child. The row is read, and no twin.
+fn step_to_last<S: BlockStore>(
+    volume: &mut Volume<S>,
+    dbd: &Dbd,
+    ssas: &[ResolvedSsa<'_>],
+    code: u8,
+    path: &mut Path,
+) -> Result<Option<bool>, Refused>
+    requires descend { Descend dbd.now.types None ssas.now }
+    requires of { IsOf dbd.now volume.old }
+    requires there { IsThere dbd.now volume.old path.old }
+    requires parent { IsTrue volume.old.is_sound → parent_of dbd.now.types code ≡ Some ((links_of dbd.now.types volume.old).code (tip path.old)) }
+    ensures read { IsRead volume.old result volume.new }
+    ensures value { IfOk result (λ r. StepsDown dbd.now volume.old ssas.now code path.old r path.new) }
+    ensures refusal { OnlyDevice result }
+{
+    if !goes_to_last(dbd, ssas, code) {
+        return Ok(None);
+    }
+    let child = last_child(volume, dbd, tip_of(path), code)?;
+    if child == 0 {
+        return Ok(None);
+    }
+    path.push(child);
+    Ok(Some(true))
+}
+
+/// Goes down from the last row of a path, of one type, to a child, of another, that the argument of that type asks for by its key or as the last twin.
+/// `Some` where there is one, and then whether it is known to have what is asked; `None` behind a child of another key, and, with the path as it was,
+/// where the other is no child type, the argument tells of neither, or there is no such child.
+fn step_down<S: BlockStore>(
+    volume: &mut Volume<S>,
+    dbd: &Dbd,
+    ssas: &[ResolvedSsa<'_>],
+    above: u8,
+    code: u8,
+    path: &mut Path,
+) -> Result<Option<bool>, Refused>
+    requires descend { Descend dbd.now.types None ssas.now }
+    requires of { IsOf dbd.now volume.old }
+    requires there { IsThere dbd.now volume.old path.old }
+    requires above { IsTrue volume.old.is_sound → (links_of dbd.now.types volume.old).code (tip path.old) ≡ above }
+    ensures read { IsRead volume.old result volume.new }
+    ensures value { IfOk result (λ r. StepsDown dbd.now volume.old ssas.now code path.old r path.new) }
+    ensures refusal { OnlyDevice result }
+{
+    if dbd.parent_of(code) != Some(above) {
+        return Ok(None);
+    }
+    match least_key_of(dbd, ssas, code) {
+        Some(key) => step_to_key(volume, dbd, ssas, code, key, path),
+        None => step_to_last(volume, dbd, ssas, code, path),
+    }
+}
+
+/// Goes down from a root, argument by argument, to the first child whose key is not below the least that the argument asks for, or, where it asks for
+/// the last twin alone and parents keep that, to the last child. It stops behind a child of another key, and where a type is left out, an argument
+/// tells of neither, or there is no such child. Says whether the arguments are known to name the row where it came, if the root meets its own: each
+/// was gone by, and asks for the key that was found and nothing else, or for the last twin alone.
 fn descend<S: BlockStore>(
     volume: &mut Volume<S>,
     dbd: &Dbd,
@@ -140,16 +219,10 @@ fn descend<S: BlockStore>(
     let mut is_named = true;
     for place in 1..ssas.len() {
         let code = ssas[place].code();
-        let Some(key) = least_child_key(dbd, ssas, above, code) else {
+        let Some(is_met) = step_down(volume, dbd, ssas, above, code, path)? else {
             return Ok(false);
         };
-        let Some(is_equal) = go_below(volume, dbd, code, key, path)? else {
-            return Ok(false);
-        };
-        if !is_equal {
-            return Ok(false);
-        }
-        is_named = is_named & ask_for(dbd, ssas, code, key);
+        is_named = is_named & is_met;
         above = code;
     }
     Ok(is_named)
@@ -202,10 +275,11 @@ fn descend_from<S: BlockStore>(
 
 /// The path of the row where GU begins, empty where no root is left, and whether the arguments are known to name that row; none before it is named.
 /// Where the root's argument tells of a least key, it is the first root whose key is not below that, which the index has, and, if this meets its
-/// arguments, from there down as far as the arguments tell of keys and such are found, or one child further; else it is the first root.
+/// arguments, from there down as far as the arguments tell of keys, or ask for the last twin alone where parents keep it, and such are found, or one
+/// child further; else it is the first root.
 ///
-/// One block of each level of the index is read, the root, and below it the ends of the twins, those that are passed over from the nearer
-/// end on and each row that is gone down from; or one row.
+/// One block of each level of the index is read, the root, and below it each row that is gone down from and, on the way to a key, the ends of the twins and those
+/// that are passed over from the nearer end on; or one row.
 pub fn unique_by_key<S: BlockStore>(
     volume: &mut Volume<S>,
     dbd: &Dbd,

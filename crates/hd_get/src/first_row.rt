@@ -17,7 +17,8 @@ use hd_volume::Volume;
 
 /// The path of the first row that arguments name, as by GU, whether a PCB may read it or not; `None` where there is none, and without
 /// arguments. What is read is what a GU with these arguments reads: by the root's key a block of each level of the index and the root
-/// found there, and below it the twins of each type on the way, up to the first that has the key that is asked for, or whose key is past it.
+/// found there, and below it the twins of each type on the way, up to the first that has the key that is asked for, or whose key is past it. The last
+/// row of the path may be unread, where it is the last twin and parents keep that.
 pub fn first_named<S: BlockStore>(
     volume: &mut Volume<S>,
     dbd: &Dbd,

@@ -123,7 +123,7 @@ fn reads_target(dbd: &Dbd, call: &Get<'_>) -> bool
 }
 
 /// The path of the row that a GU seeks, if there is one. Where its arguments leave out no type from the root down, and each below the root's asks for a
-/// key that is found, and for nothing else, no row is judged but the root.
+/// key that is found, or for the last twin, which parents keep, and for nothing else, no row is judged but the root.
 fn seek_unique<S: BlockStore>(
     volume: &mut Volume<S>,
     dbd: &Dbd,

@@ -39,7 +39,7 @@ const COUNTED: &[u8] =
 1 name/COURSE  (NUM     EQ205)/BOOK    ;;  20/37
 #3:the index, the course, its last class, which it keeps
 1 seek/COURSE  (NUM     EQ205)/CLASS   *L;;  20/33
-#3
+#2
 1 name/COURSE  (NUM     EQ205)/CLASS   *L;;  20/33
 #7:the index, the course, its last class and its first, which does not keep its last student, and all three students
 1 seek/COURSE  (NUM     EQ205)/CLASS   (ED      EQ01)/STUD    *L;;  20/21/24

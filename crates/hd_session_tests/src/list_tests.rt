@@ -179,7 +179,7 @@ const LISTS: &[u8] =
 1 seek/CLASS   (ED      GE01*ED      LT02);;  1/2
 1 name/CLASS   (ED      GE01*ED      LT02);;  1/2
 2 seek/CLASS   (ED      GE01*ED      LT02);;  0
-1 from/COURSE  (NUM     EQ101)/CLASS   *L ;;  1
+1 from/COURSE  (NUM     EQ101)/CLASS   *L ;;  1/5
 1 seek/COURSE  (NUM     EQ101)/CLASS   *L ;;  1/5
 1 name/COURSE  (NUM     EQ101)/CLASS   *L ;;  1/5
 2 seek/COURSE  (NUM     EQ101)/CLASS   *L ;;  0

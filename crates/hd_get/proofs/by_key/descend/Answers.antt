@@ -1,18 +1,23 @@
-use Rattle.std.proofs.Common.{◌≡◌, ◌+◌, ◌-◌, ◌<◌, ◌≤◌, List, [], ◌∷◌, length, map, slice_index, Bool, true, false, Some, Ok, refl, sym, ap, subst, ◌∙◌, arith}
-use Rattle.std.specs.Prelude.{◌&&◌, option_copied}
-use Rattle.std.proofs.lemmas.Bool.{eqb-true, false≢true}
+use Rattle.std.proofs.Common.{◌≡◌, ℕ, ◌+◌, ◌-◌, ◌<◌, ◌≤◌, List, [], ◌∷◌, length, map, slice_index, Bool, true, false, Option, Some, None, Ok, sym, ap, subst, ◌∙◌, arith}
+use Rattle.std.specs.Prelude.{slice_index_or}
+use Rattle.std.proofs.lemmas.Bool.{eqb-true}
+use Rattle.hd_dbd.specs.Hierarchy.{Database}
+use Rattle.hd_dbd.specs.Forest.{Forest}
+use Rattle.hd_volume.specs.Volumes.{VolumeState}
 use Rattle.hd_volume.proofs.CallSteps.{read-ok, read-none, reads-join}
-use Rattle.hd_links.specs.Links.{is_child_type}
+use Rattle.hd_links.specs.Placed.{Placed, Holds}
 use Rattle.hd_links.specs.Steps.{rows_of}
-use Rattle.hd_image.specs.Records.{links_of}
+use Rattle.hd_image.specs.Records.{links_of, IsVolumeOf}
 use Rattle.hd_forest.specs.Walks.{tip}
 use Rattle.hd_forest.specs.Rows.{IsOnSomeRow}
 use Rattle.hd_forest.proofs.Reading.{links-kept, volume-kept}
-use Rattle.hd_calls.specs.Ssas.{Ssa}
+use Rattle.hd_calls.specs.Ssas.{Ssa, target_code}
+use Rattle.hd_calls.specs.Admits.{Descend, is_on_way}
+use Rattle.hd_calls.proofs.SearchWays.{on_way_all}
 use Rattle.hd_get.specs.Searches.{IsPathOf}
-use Rattle.hd_get.specs.Descents.{least_child_key, ask_for, LeadsOnward, is_root_first}
-use Rattle.hd_get.proofs.Grounds.{held_rows, grounds, tip_code, told_before}
-use Rattle.hd_get.proofs.Descents.{HasCome, child_typed, parent_is, new_code, further, code_at_place, come_to_last, come_so_far}
+use Rattle.hd_get.specs.Descents.{IsStepDown, is_root_first}
+use Rattle.hd_get.proofs.Grounds.{held_rows, told_before}
+use Rattle.hd_get.proofs.Descents.{HasCome, on_way_at, further, further_code, code_at_place, come_to_last, come_so_far}
 use Rattle.hd_get.proofs.by_key.descend.Goals as goal
 
 first_code : (ssas : List Ssa) → is_root_first ssas ≡ true → (0 < length ssas) × (1 ≡ slice_index (map (λ a. a.code) ssas) 0)
@@ -28,99 +33,80 @@ loop-place-init g c = record {
   some = omega arith;
 }
 
-pub returns-in_default-clause-value : goal.returns-in_default-clause-value
-returns-in_default-clause-value g c f i at =
-    let C = c.loop-place.invariant.comes f i at in
-    come_so_far c.args.dbd.now c.args.volume.now f c.args.ssas.now i c.loop-place.is_named c.loop-place.path C.0 C.1
+-- the type of the argument at a place is on the way to the last one's
+on_way : (d : Database) (v : VolumeState) → IsVolumeOf d v → (f : Forest Placed) → Holds d.types (links_of d.types v) f → (ssas : List Ssa) → Descend d.types None ssas
+    → (place : ℕ) (x : Ssa) → place < length ssas → x ≡ slice_index_or ssas place x → is_on_way d.types (target_code ssas) x.code ≡ true
+on_way d v of f holds ssas descend place x within is =
+    on_way_at d.types (target_code ssas) place ssas x (on_way_all d.types (rows_of f) ssas (record { over = held_rows d v f of holds; descend = descend })) within is
 
-pub go_below-requires-clause-of : goal.go_below-requires-clause-of
-go_below-requires-clause-of g c = volume-kept c.args.dbd.now c.args.volume.now c.loop-place.volume c.loop-place.invariant.read c.requires.of
+pub step_down-requires-clause-of : goal.step_down-requires-clause-of
+step_down-requires-clause-of g c = volume-kept c.args.dbd.now c.args.volume.now c.loop-place.volume c.loop-place.invariant.read c.requires.of
 
-pub go_below-requires-clause-there : goal.go_below-requires-clause-there
-go_below-requires-clause-there g c =
+pub step_down-requires-clause-there : goal.step_down-requires-clause-there
+step_down-requires-clause-there g c =
     links-kept c.args.dbd.now (λ m. IsOnSomeRow c.args.dbd.now.types m c.loop-place.path) c.args.volume.now c.loop-place.volume c.loop-place.invariant.read
     (λ sound.
     let T = c.requires.there sound in
     let C = c.loop-place.invariant.comes T.0 T.1 (record { sound = sound; row = T.2 }) in
     (T.0, C.0, C.1.row))
 
-pub go_below-requires-clause-typed : goal.go_below-requires-clause-typed
-go_below-requires-clause-typed g c =
-    links-kept c.args.dbd.now (λ m. is_child_type c.args.dbd.now.types (m.code (tip c.loop-place.path)) c.code-code.result ≡ true) c.args.volume.now c.loop-place.volume c.loop-place.invariant.read
-    (λ sound.
-    let d = c.args.dbd.now in
-    let u = c.args.volume.now in
-    let of = c.requires.of sound in
-    let T = c.requires.there sound in
-    let C = c.loop-place.invariant.comes T.0 T.1 (record { sound = sound; row = T.2 }) in
-    let G = grounds d u T.0 of C.1.row.holds in
-    let key : least_child_key d.types c.args.ssas.now c.loop-place.above c.code-code.result ≡ Some c.in-Some.key.now = sym c.least_child_key.ensures ∙ ap option_copied c.in-Some.is in
-    subst (λ k. is_child_type d.types k c.code-code.result ≡ true) (sym (tip_code d.types (links_of d.types u) T.0 G c.loop-place.path C.0 C.1.row))
-    (child_typed d.types (rows_of T.0) (held_rows d u T.0 of C.1.row.holds) C.0 c.code-code.result C.1.row.within
-    (parent_is d u of T.0 c.args.ssas.now c.requires.descend C.0 c.loop-place.above c.loop-place.path C.1.row (c.loop-place.invariant.code sound) c.code-code.result c.in-Some.key.now key)))
+pub step_down-requires-clause-above : goal.step_down-requires-clause-above
+step_down-requires-clause-above g c =
+    links-kept c.args.dbd.now (λ m. m.code (tip c.loop-place.path) ≡ c.loop-place.above) c.args.volume.now c.loop-place.volume c.loop-place.invariant.read c.loop-place.invariant.code
 
-pub returns-in_default-2-clause-read : goal.returns-in_default-2-clause-read
-returns-in_default-2-clause-read g c = reads-join (Ok false) c.loop-place.invariant.read (read-ok false c.in_ok-is_equal.ensures.read)
+pub returns-in_default-clause-read : goal.returns-in_default-clause-read
+returns-in_default-clause-read g c = reads-join (Ok false) c.loop-place.invariant.read (read-ok false c.in_ok-is_met.ensures.read)
 
-pub returns-in_default-2-clause-value : goal.returns-in_default-2-clause-value
-returns-in_default-2-clause-value g c f i at =
+pub returns-in_default-clause-value : goal.returns-in_default-clause-value
+returns-in_default-clause-value g c f i at =
     let d = c.args.dbd.now in
     let u = c.args.volume.now in
     let C = c.loop-place.invariant.comes f i at in
-    let told = told_before d u c.loop-place.volume c.loop-place.invariant.read f c.loop-place.path C.0 (record { sound = at.sound; row = C.1.row }) in
-    let B = c.in_ok-is_equal.ensures.value f C.0 told in
-    subst (LeadsOnward d u f c.args.ssas.now i false) (sym (B.stays c.in_default-2.is)) (come_so_far d u f c.args.ssas.now i c.loop-place.is_named c.loop-place.path C.0 C.1)
+    let way = on_way d u (c.requires.of at.sound) f C.1.row.holds c.args.ssas.now c.requires.descend c.loop-place.place c.index-ssas-place.result c.loop-place-test.true c.index-ssas-place.is in
+    come_so_far d u f c.args.ssas.now i C.0 c.code-code.result c.loop-place.is_named c.loop-place.path c.step_down.new.path C.1 _
+    (c.in_ok-is_met.ensures.value f C.0 (told_before d u c.loop-place.volume c.loop-place.invariant.read f c.loop-place.path C.0 (record { sound = at.sound; row = C.1.row }))
+    (subst (λ k. is_on_way d.types (target_code c.args.ssas.now) k ≡ true) (sym c.code-code.ensures) way))
 
-pub returns-then-not-is_equal-clause-read : goal.returns-then-not-is_equal-clause-read
-returns-then-not-is_equal-clause-read g c = reads-join (Ok false) c.loop-place.invariant.read (read-ok false c.in_ok-is_equal.ensures.read)
-
-pub returns-then-not-is_equal-clause-value : goal.returns-then-not-is_equal-clause-value
-returns-then-not-is_equal-clause-value g c f i at =
-    let d = c.args.dbd.now in
-    let u = c.args.volume.now in
-    let key : least_child_key d.types c.args.ssas.now c.loop-place.above c.code-code.result ≡ Some c.in-Some.key.now = sym c.least_child_key.ensures ∙ ap option_copied c.in-Some.is in
-    let C = c.loop-place.invariant.comes f i at in
-    let told = told_before d u c.loop-place.volume c.loop-place.invariant.read f c.loop-place.path C.0 (record { sound = at.sound; row = C.1.row }) in
-    let J = (c.in_ok-is_equal.ensures.value f C.0 told).below c.in-Some-2.is_equal c.in-Some-2.is in
-    come_so_far d u f c.args.ssas.now i _ c.go_below.new.path J.0
-    (further d u (c.requires.of at.sound) f c.args.ssas.now c.requires.descend C.0 c.loop-place.above c.loop-place.path C.1.row (c.loop-place.invariant.code at.sound) c.code-code.result
-    c.in-Some.key.now key c.go_below.new.path J.0 J.1 J.2 c.loop-place.place c.index-ssas-place.result c.loop-place-test.true c.index-ssas-place.is c.code-code.ensures i
-    c.loop-place.is_named false C.1 (λ e. absurd (false≢true e)))
-
-and_true : (b : Bool) → (b && true) ≡ b
-and_true true = refl
-and_true false = refl
+-- The step from where the path was, and what was known there.
+record HasStepped (d : Database) (v : VolumeState) (f : Forest Placed) (ssas : List Ssa) (i code : ℕ) (told : Bool) (old : List ℕ) (r : Option Bool) (new : List ℕ) : Type 0 where
+  row : ℕ
+  come : HasCome d v f ssas i told old row
+  step : IsStepDown d.types f ssas row code r new
 
 pub loop-place-preserved : goal.loop-place-preserved
 loop-place-preserved g c =
     let d = c.args.dbd.now in
     let u = c.args.volume.now in
-    let key : least_child_key d.types c.args.ssas.now c.loop-place.above c.code-code.result ≡ Some c.in-Some.key.now = sym c.least_child_key.ensures ∙ ap option_copied c.in-Some.is in
     record {
-      read = reads-join (Ok 0) c.loop-place.invariant.read (read-ok 0 c.in_ok-is_equal.ensures.read);
-      comes = λ f i at. (
-          let C = c.loop-place.invariant.comes f i at in
-          let told = told_before d u c.loop-place.volume c.loop-place.invariant.read f c.loop-place.path C.0 (record { sound = at.sound; row = C.1.row }) in
-          let J = (c.in_ok-is_equal.ensures.value f C.0 told).below c.in-Some-2.is_equal c.in-Some-2.is in (
-            J.0,
-            subst (λ b. HasCome d u f c.args.ssas.now i (c.loop-place.is_named && b) c.go_below.new.path J.0) (sym c.ask_for-is_named.ensures)
-                (subst (λ b. HasCome d u f c.args.ssas.now i (b && ask_for d.types c.args.ssas.now c.code-code.result c.in-Some.key.now) c.go_below.new.path J.0) (and_true c.loop-place.is_named)
-                (further d u (c.requires.of at.sound) f c.args.ssas.now c.requires.descend C.0 c.loop-place.above c.loop-place.path C.1.row (c.loop-place.invariant.code at.sound) c.code-code.result
-                c.in-Some.key.now key c.go_below.new.path J.0 J.1 J.2 c.loop-place.place c.index-ssas-place.result c.loop-place-test.true c.index-ssas-place.is c.code-code.ensures i
-                c.loop-place.is_named true C.1 (λ e. J.3 c.if-not-is_equal.false))),
+      read = reads-join (Ok 0) c.loop-place.invariant.read (read-ok 0 c.in_ok-is_met.ensures.read);
+      comes = λ f i at.
+          (let S = stepped f i at in (
+            S.step.number,
+            further d u f c.args.ssas.now i S.row c.code-code.result c.loop-place.is_named c.loop-place.path c.step_down.new.path S.come c.in-Some.is_met S.step,
           ));
-      code = λ sound. (
-          let T = c.requires.there sound in
-          let at : IsPathOf d u T.0 c.args.path.now T.1 = record { sound = sound; row = T.2 } in
-          let C = c.loop-place.invariant.comes T.0 T.1 at in
-          let told = told_before d u c.loop-place.volume c.loop-place.invariant.read T.0 c.loop-place.path C.0 (record { sound = sound; row = C.1.row }) in
-          let J = (c.in_ok-is_equal.ensures.value T.0 C.0 told).below c.in-Some-2.is_equal c.in-Some-2.is in
-          new_code d u (c.requires.of sound) T.0 c.args.ssas.now c.requires.descend C.0 c.loop-place.above c.loop-place.path C.1.row (c.loop-place.invariant.code sound) c.code-code.result
-          c.in-Some.key.now key c.go_below.new.path J.0 J.1 J.2);
+      code = λ sound.
+          (let T = c.requires.there sound in
+          let S = stepped T.0 T.1 (record { sound = sound; row = T.2 }) in
+          further_code d u T.0 c.args.ssas.now T.1 S.row c.code-code.result c.loop-place.is_named c.loop-place.path c.step_down.new.path S.come (c.requires.of sound) c.in-Some.is_met S.step);
       last = c.code-code.ensures ∙ sym (code_at_place c.loop-place.place c.args.ssas.now c.index-ssas-place.result c.loop-place-test.true c.index-ssas-place.is)
           ∙ ap (slice_index (map (λ a. a.code) c.args.ssas.now)) (let e : c.loop-place.place ≡ c.loop-place.place + 1 - 1 = omega arith in e);
       some = omega arith;
     }
+  where
+    stepped : (f : Forest Placed) (i : ℕ) → IsPathOf c.args.dbd.now c.args.volume.now f c.args.path.now i
+        → HasStepped c.args.dbd.now c.args.volume.now f c.args.ssas.now i c.code-code.result c.loop-place.is_named c.loop-place.path (Some c.in-Some.is_met) c.step_down.new.path
+    stepped f i at =
+        let d = c.args.dbd.now in
+        let u = c.args.volume.now in
+        let C = c.loop-place.invariant.comes f i at in
+        let way = on_way d u (c.requires.of at.sound) f C.1.row.holds c.args.ssas.now c.requires.descend c.loop-place.place c.index-ssas-place.result c.loop-place-test.true c.index-ssas-place.is in
+        record {
+          row = C.0;
+          come = C.1;
+          step = subst (λ r. IsStepDown d.types f c.args.ssas.now C.0 c.code-code.result r c.step_down.new.path) c.in-Some.is
+              (c.in_ok-is_met.ensures.value f C.0 (told_before d u c.loop-place.volume c.loop-place.invariant.read f c.loop-place.path C.0 (record { sound = at.sound; row = C.1.row }))
+              (subst (λ k. is_on_way d.types (target_code c.args.ssas.now) k ≡ true) (sym c.code-code.ensures) way));
+        }
 
 pub returns-clause-value : goal.returns-clause-value
 returns-clause-value g c f i at =
