@@ -1,5 +1,7 @@
 -- The parts of a line that have a fixed length, as their bytes.
-use Rattle.std.proofs.Common.{◌≡◌, ℕ, ◌+◌, ◌<◌, List, [], ◌∷◌, ◌++◌, length, get_or, codes, decimal, refl, sym, ap, ap₂, ◌∙◌, append_assoc}
+use Rattle.std.proofs.Common.{◌≡◌, ℕ, ◌+◌, ◌-◌, ◌<◌, ◌≤◌, List, [], ◌∷◌, ◌++◌, length, take, drop, get_or, codes, decimal, refl, sym, ap, ap₂, ◌∙◌, arith, append_assoc}
+use Rattle.std.proofs.Math.Seq.{take-append-add}
+use Rattle.std.proofs.lemmas.List.{drop-take, drop_at}
 use Rattle.std.proofs.lemmas.Slice.Eq.{text_from_reads}
 use Rattle.std.proofs.lemmas.Fmt.{decimal_digit}
 
@@ -63,3 +65,26 @@ short-line number h c f place b key key' area area' eh ep ek ea =
     ∙ ap (λ (l : List ℕ). l ++ end) (push front b ((word ++ key) ++ next) area
     ∙ ap (λ (l : List ℕ). l ++ area) (push front b (word ++ key) next ∙ ap (λ (l : List ℕ). l ++ next) (push front b word key))))
     ∙ ap₂ (λ (k a : List ℕ). front ++ (b ++ (word ++ k ++ next ++ a ++ end))) (sym ek) (sym ea)
+
+-- bytes in front of six parts stand in front of all of them
+in-front : (xs a b c d e f : List ℕ) → (((((xs ++ a) ++ b) ++ c) ++ d) ++ e) ++ f ≡ xs ++ (((((a ++ b) ++ c) ++ d) ++ e) ++ f)
+in-front xs a b c d e f =
+    let two = append_assoc xs a b in
+    let three = ap (λ (l : List ℕ). l ++ c) two ∙ append_assoc xs (a ++ b) c in
+    let four = ap (λ (l : List ℕ). l ++ d) three ∙ append_assoc xs ((a ++ b) ++ c) d in
+    let five = ap (λ (l : List ℕ). l ++ e) four ∙ append_assoc xs (((a ++ b) ++ c) ++ d) e in
+    ap (λ (l : List ℕ). l ++ f) five ∙ append_assoc xs ((((a ++ b) ++ c) ++ d) ++ e) f
+
+-- a line whose first bytes were blank, in which a number is written that ends where they ended
+pub numbered : (line before blank number a b c d e f : List ℕ) (from at to : ℕ) → length blank ≡ at → from + length number ≡ at → at ≤ to → drop from line ≡ number ++ drop at before
+    → take to before ≡ (((((blank ++ a) ++ b) ++ c) ++ d) ++ e) ++ f → take (to - from) (drop from line) ≡ (((((number ++ a) ++ b) ++ c) ++ d) ++ e) ++ f
+numbered line before blank number a b c d e f from at to blanks begins fits is text =
+    let rest : List ℕ = ((((a ++ b) ++ c) ++ d) ++ e) ++ f in
+    let long : to - from ≡ length number + (to - at) = omega (arith, begins, fits) in
+    let all : at + (to - at) ≡ to = omega (arith, fits) in
+    let behind : take (to - at) (drop at before) ≡ rest
+    = sym (drop-take at (to - at) before) ∙ ap (λ (n : ℕ). drop at (take n before)) all ∙ ap (drop at) (text ∙ in-front blank a b c d e f) ∙ drop_at blank rest at blanks in
+    ap₂ (λ (n : ℕ) (l : List ℕ). take n l) long is
+    ∙ take-append-add number (drop at before) (to - at)
+    ∙ ap (λ (l : List ℕ). number ++ l) behind
+    ∙ sym (in-front number a b c d e f)

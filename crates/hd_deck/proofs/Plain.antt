@@ -22,32 +22,34 @@ plain_bytes [] h = refl
 plain_bytes (b ∷ bytes) h =
     let P = and_parts (is_plain b) (list_all is_plain bytes) h in ap₂ (λ (x y : List ℕ). x ++ y) (plain_byte b P.0) (plain_bytes bytes P.1)
 
--- the bytes of a block more are plain where those before them are, and its own
-pub plain_more : (line : List ℕ) (start n : ℕ)
-    → list_all is_plain (take (16 * (n + 1)) (drop start line)) ≡ (list_all is_plain (take (16 * n) (drop start line)) && list_all is_plain (take 16 (drop (start + 16 * n) line)))
-plain_more line start n =
+-- where so many bytes of a line are plain, and those of the block behind them, all these are
+pub plain_more : (line : List ℕ) (start first : ℕ) → start ≤ first → list_all is_plain (take (first - start) (drop start line)) ≡ true → list_all is_plain (take 32 (drop first line)) ≡ true
+    → list_all is_plain (take (first + 32 - start) (drop start line)) ≡ true
+plain_more line start first low before block =
+    let n : ℕ = first - start in
     let rest : List ℕ = drop start line in
-    ap (λ (k : ℕ). list_all is_plain (take k rest)) (let e : 16 * (n + 1) ≡ 16 * n + 16 = omega arith in e)
-    ∙ ap (list_all is_plain) (take-add (16 * n) 16 rest)
-    ∙ list_all-append is_plain (take (16 * n) rest) (take 16 (drop (16 * n) rest))
-    ∙ ap (λ (xs : List ℕ). list_all is_plain (take (16 * n) rest) && list_all is_plain (take 16 xs)) (drop-drop (16 * n) start line)
+    let e : first + 32 - start ≡ n + 32 = omega (arith, low) in
+    ap (λ (k : ℕ). list_all is_plain (take k rest)) e
+    ∙ ap (list_all is_plain) (take-add n 32 rest)
+    ∙ list_all-append is_plain (take n rest) (take 32 (drop n rest))
+    ∙ ap₂ (λ (x y : Bool). x && y) before (ap (λ (xs : List ℕ). list_all is_plain (take 32 xs)) (drop-drop n start line ∙ ap (λ (k : ℕ). drop k line) (let f : start + n ≡ first = omega (arith, low) in f)) ∙ block)
 
 -- where so many bytes are plain, fewer of them are
-plain_fewer : (bytes : List ℕ) (n k : ℕ) → n ≤ k → list_all is_plain (take k bytes) ≡ true → list_all is_plain (take n bytes) ≡ true
+pub plain_fewer : (bytes : List ℕ) (n k : ℕ) → n ≤ k → list_all is_plain (take k bytes) ≡ true → list_all is_plain (take n bytes) ≡ true
 plain_fewer bytes n k less plain =
     let e : n + (k - n) ≡ k = omega (arith, less) in
     (and_parts (list_all is_plain (take n bytes)) (list_all is_plain (take (k - n) (drop n bytes)))
     (sym (list_all-append is_plain (take n bytes) (take (k - n) (drop n bytes))) ∙ ap (list_all is_plain) (sym (take-add n (k - n) bytes)) ∙ ap (λ (m : ℕ). list_all is_plain (take m bytes)) e ∙ plain)).0
 
--- where a line is some bytes and a key and an area behind them, and so many bytes behind the first are plain, key and area are shown as they are
-pub shown_there : (line front key word area : List ℕ) (start end k : ℕ) → length front ≡ start → start ≤ end → end ≤ start + k
-    → take end line ≡ ((front ++ key) ++ word) ++ area → list_all is_plain (take k (drop start line)) ≡ true → (shown key ≡ key) × (shown area ≡ area)
-shown_there line front key word area start end k long low high is plain =
+-- where a line is some bytes and a key and an area behind them, and all behind the first bytes is plain, key and area are shown as they are
+pub shown_there : (line front key word area : List ℕ) (start end : ℕ) → length front ≡ start → start ≤ end
+    → take end line ≡ ((front ++ key) ++ word) ++ area → list_all is_plain (take (end - start) (drop start line)) ≡ true → (shown key ≡ key) × (shown area ≡ area)
+shown_there line front key word area start end long low is plain =
     let e : start + (end - start) ≡ end = omega (arith, low) in
     let behind : take (end - start) (drop start line) ≡ (key ++ word) ++ area
     = sym (drop-take start (end - start) line) ∙ ap (λ (n : ℕ). drop start (take n line)) e ∙ ap (drop start) (is ∙ ap (λ (xs : List ℕ). xs ++ area) (append_assoc front key word) ∙ append_assoc front (key ++ word) area)
     ∙ drop_at front ((key ++ word) ++ area) start long in
-    let all = ap (list_all is_plain) (sym behind) ∙ plain_fewer (drop start line) (end - start) k (let w : end - start ≤ k = omega (arith, high) in w) plain in
+    let all = ap (list_all is_plain) (sym behind) ∙ plain in
     let A = and_parts (list_all is_plain (key ++ word)) (list_all is_plain area) (sym (list_all-append is_plain (key ++ word) area) ∙ all) in
     let K = and_parts (list_all is_plain key) (list_all is_plain word) (sym (list_all-append is_plain key word) ∙ A.0) in
     (plain_bytes key K.0, plain_bytes area A.1)

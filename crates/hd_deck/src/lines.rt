@@ -1,4 +1,4 @@
-ghost use Rattle.std.specs.Prelude.{◌≡◌, ◌<◌, ◌≤◌, ◌+◌, ◌++◌, ◌*◌, length, take, drop, nat_le, unwrap_or, replicate, codes, decimal, true, OnOk};
+ghost use Rattle.std.specs.Prelude.{◌≡◌, ◌<◌, ◌≤◌, ◌+◌, ◌-◌, ◌++◌, ◌*◌, length, take, drop, nat_le, unwrap_or, replicate, codes, decimal, true, OnOk};
 ghost use Rattle.std.specs.List.{list_all};
 ghost use Rattle.std.specs.Io.KnownBytes.{Appends};
 ghost use Rattle.hd_dbd.specs.Logs.{replied};
@@ -8,19 +8,31 @@ ghost use Rattle.hd_deck.specs.declared.lines.TheConstants.{SHORT};
 
 use hd_dbd::{Name8, Refused, Status, status_text};
 use hd_session::{Answer, IoArea};
-use itoa::Buffer;
+use itoa::{Buffer, write_digits};
 use std::io::Write;
 use thiserror::Error;
 
-/// The bytes of a line that goes out in one write: a number has at most 40, head, place and the words between have 36, and the last block that is looked at
-/// goes past the area.
+/// The bytes of a line that goes out in one write: the number has the first 20, head and place have 29, and the last block that is looked at goes past the
+/// area.
 const LINE_ROOM: usize = 256;
+
+/// Where the number of a call ends in such a line.
+const NUMBER_END: usize = 20;
 
 /// The bytes that key and area have together at most in such a line.
 const SHORT: usize = 168;
 
 /// The bytes of a line that are looked at at once.
-const BLOCK: usize = 16;
+const BLOCK: usize = 32;
+
+/// The bytes that key and area have together at most in such a line where not all are printed as they are: each then has up to four.
+const FEW: usize = 50;
+
+/// So many bytes are written at once where not all are printed as they are.
+const CHUNK: usize = 32;
+
+/// The bytes that so many have at most as they are printed.
+const CHUNK_ROOM: usize = 128;
 
 /// A write failed. How much went out before it is not known.
 #[derive(Clone, Copy, Debug, Drop, PartialEq, Eq, Error)]
@@ -73,24 +85,53 @@ pub fn put_shown<W: Write>(out: &mut W, bytes: &[u8]) -> Result<(), WriteFault>
     put_each(out, bytes)
 }
 
-/// Writes bytes one by one, so that each is seen.
+/// Writes bytes of which not all are printed as they are, so that each is seen.
 fn put_each<W: Write>(out: &mut W, bytes: &[u8]) -> Result<(), WriteFault>
     ensures { OnOk result (Appends (W.contents out.old) (W.contents out.new) (shown bytes.now)) }
 {
-    for byte in bytes {
-        put_shown_byte(out, *byte)?;
+    for chunk in bytes.chunks(CHUNK) {
+        put_chunk(out, chunk)?;
     }
     Ok(())
 }
 
-fn put_shown_byte<W: Write>(out: &mut W, byte: u8) -> Result<(), WriteFault>
-    ensures { OnOk result (Appends (W.contents out.old) (W.contents out.new) (shown_byte byte)) }
+/// Writes a few bytes in one write, so that each is seen.
+fn put_chunk<W: Write>(out: &mut W, bytes: &[u8]) -> Result<(), WriteFault>
+    requires { length bytes.now ≤ 32 }
+    ensures { OnOk result (Appends (W.contents out.old) (W.contents out.new) (shown bytes.now)) }
+{
+    let mut text = [0; CHUNK_ROOM];
+    let end = add_each(&mut text, 0, bytes);
+    put(out, &text[..end])
+}
+
+/// Adds bytes behind the first of a line, so that each is seen, and says how many it has then.
+fn add_each(line: &mut [u8], end: usize, bytes: &[u8]) -> usize
+    requires { end + 4 * length bytes.now ≤ length line.old }
+    ensures end { (end ≤ result) × (result ≤ end + 4 * length bytes.now) }
+    ensures line { take result line.new ≡ take end line.old ++ shown bytes.now }
+    ensures room { length line.new ≡ length line.old }
+{
+    let mut behind = end;
+    for byte in bytes {
+        behind = add_shown(line, behind, *byte);
+    }
+    behind
+}
+
+/// Adds a byte behind the first of a line, so that it is seen, and says how many it has then.
+fn add_shown(line: &mut [u8], end: usize, byte: u8) -> usize
+    requires { end + 4 ≤ length line.old }
+    ensures end { (end ≤ result) × (result ≤ end + 4) }
+    ensures line { take result line.new ≡ take end line.old ++ shown_byte byte }
+    ensures room { length line.new ≡ length line.old }
 {
     match byte {
-        b'\\' => put(out, b"\\\\"),
-        32..=126 => put(out, &[byte]),
-        _ => put(
-            out,
+        b'\\' => add(line, end, b"\\\\"),
+        32..=126 => add(line, end, &[byte]),
+        _ => add(
+            line,
+            end,
             &[b'\\', b'x', hex_digit(byte / 16), hex_digit(byte % 16)],
         ),
     }
@@ -183,10 +224,11 @@ fn put_answer<W: Write>(out: &mut W, answer: &Answer, io: &IoArea) -> Result<(),
 }
 
 /// Adds bytes behind the first of a line, and says how many it has then.
-fn add(line: &mut [u8; LINE_ROOM], end: usize, bytes: &[u8]) -> usize
-    requires { end + length bytes.now ≤ 256 }
+fn add(line: &mut [u8], end: usize, bytes: &[u8]) -> usize
+    requires { end + length bytes.now ≤ length line.old }
     ensures end { result ≡ end + length bytes.now }
     ensures line { take result line.new ≡ take end line.old ++ bytes.now }
+    ensures room { length line.new ≡ length line.old }
 {
     let behind = end + bytes.len();
     line[end..behind].copy_from_slice(bytes);
@@ -197,20 +239,22 @@ fn add(line: &mut [u8; LINE_ROOM], end: usize, bytes: &[u8]) -> usize
 fn are_short(key: &[u8], area: &[u8]) -> bool
     ensures { result ≡ nat_le (length key.now + length area.now) SHORT }
 {
-    key.len() <= SHORT && area.len() <= SHORT - key.len()
+    key.len() + area.len() <= SHORT
 }
 
-/// Whether the bytes of so many blocks, from a place of a line on, are printed as they are.
-fn are_blocks_plain(line: &[u8; LINE_ROOM], start: usize, blocks: usize) -> bool
-    requires { start + 16 * blocks ≤ 256 }
-    ensures { result ≡ list_all is_plain (take (16 * blocks) (drop start line.now)) }
+/// Whether the bytes of a line from one place to another are printed as they are, and those behind them up to the end of a block.
+fn are_blocks_plain(line: &[u8; LINE_ROOM], start: usize, end: usize) -> bool
+    requires { end ≤ 224 }
+    ensures { result ≡ true → list_all is_plain (take (end - start) (drop start line.now)) ≡ true }
 {
-    let mut plain = true;
-    for block in 0..blocks {
-        let first = start + BLOCK * block;
-        plain &= are_plain(&line[first..first + BLOCK]);
+    let mut first = start;
+    while first < end {
+        if !are_plain(&line[first..first + BLOCK]) {
+            return false;
+        }
+        first += BLOCK;
     }
-    plain
+    true
 }
 
 /// Writes the line of an answer part by part.
@@ -229,6 +273,35 @@ fn put_parts<W: Write>(
     put_answer(out, answer, io)
 }
 
+/// Writes the line of an answer for a PCB of one digit, where a byte of key or area is not printed as it is: in one write, if there are few.
+#[inline(never)]
+fn put_seen<W: Write>(
+    out: &mut W,
+    number: u64,
+    pcb: u8,
+    function: &[u8; 4],
+    answer: &Answer,
+    io: &IoArea,
+) -> Result<(), WriteFault>
+    requires { pcb < 10 }
+    ensures { OnOk result (Appends (W.contents out.old) (W.contents out.new)
+        (head_text number pcb function.now ++ outcome_text (replied (reply_of answer.now io.now)))) }
+{
+    if io.key().len() + io.area().len() > FEW {
+        return put_parts(out, number, pcb, function, answer, io);
+    }
+    let mut line = [b' '; LINE_ROOM];
+    let place = place_bytes(answer.status, answer.level, &answer.segment);
+    let end = add(&mut line, NUMBER_END, &short_head(pcb, function));
+    let end = add(&mut line, end, &place);
+    let end = add_each(&mut line, end, io.key());
+    let end = add(&mut line, end, b" area=");
+    let end = add_each(&mut line, end, io.area());
+    let end = add(&mut line, end, b"\n");
+    let first = write_digits(number, &mut line, NUMBER_END);
+    put(out, &line[first..end])
+}
+
 /// Writes the line of an answer with a short key and area for a PCB of one digit: in one write, where both are printed as they are.
 fn put_short<W: Write>(
     out: &mut W,
@@ -245,17 +318,17 @@ fn put_short<W: Write>(
 {
     let mut line = [b' '; LINE_ROOM];
     let place = place_bytes(answer.status, answer.level, &answer.segment);
-    let end = add(&mut line, 0, Buffer::new().format(number).as_bytes());
-    let end = add(&mut line, end, &short_head(pcb, function));
+    let end = add(&mut line, NUMBER_END, &short_head(pcb, function));
     let start = add(&mut line, end, &place);
     let end = add(&mut line, start, io.key());
     let end = add(&mut line, end, b" area=");
     let end = add(&mut line, end, io.area());
-    if !are_blocks_plain(&line, start, (end - start) / BLOCK + 1) {
-        return put_parts(out, number, pcb, function, answer, io);
+    if !are_blocks_plain(&line, start, end) {
+        return put_seen(out, number, pcb, function, answer, io);
     }
     let end = add(&mut line, end, b"\n");
-    put(out, &line[..end])
+    let first = write_digits(number, &mut line, NUMBER_END);
+    put(out, &line[first..end])
 }
 
 /// Writes the line of one call that was answered: the call's number, from 1, its PCB's number and its function, then
