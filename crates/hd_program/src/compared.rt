@@ -188,19 +188,32 @@ impl<W: Write> Compared<W> {
     /// Notes bytes of a line that went out.
     #[inline(always)]
     fn note(&mut self, bytes: &[u8]) {
+        if bytes.ends_with(b"\n") {
+            self.note_end(bytes);
+        } else {
+            self.note_part(bytes);
+        }
+    }
+
+    /// Notes bytes that end a line.
+    #[inline(always)]
+    fn note_end(&mut self, bytes: &[u8]) {
+        self.refuses = false;
+        self.lines = self.lines.saturating_add(1);
+        if self.due == self.lines {
+            self.gather(bytes);
+            self.judge();
+        }
+    }
+
+    /// Notes bytes behind which their line goes on.
+    fn note_part(&mut self, bytes: &[u8]) {
         if self.refuses && bytes == b"Full".as_slice() {
             self.full = self.full.saturating_add(1);
         }
         self.refuses = bytes == b" [!!] ".as_slice();
-        let is_due = self.due == self.lines.saturating_add(1);
-        if is_due {
+        if self.due == self.lines.saturating_add(1) {
             self.gather(bytes);
-        }
-        if bytes.ends_with(b"\n") {
-            self.lines = self.lines.saturating_add(1);
-            if is_due {
-                self.judge();
-            }
         }
     }
 
