@@ -10,6 +10,7 @@ use Rattle.hd_links.specs.Placed.{Placed, Holds}
 use Rattle.hd_links.specs.Steps.{tip_from, child_among, next_row, behind_span}
 use Rattle.hd_image.specs.Records.{links_of, IsVolumeOf}
 use Rattle.hd_forest.specs.declared.walk.Ahead.{Ahead}
+use Rattle.hd_forest.specs.Onward.{onward}
 
 -- the last address of a path, 0 for none
 abbrev pub tip : List ℕ → ℕ
@@ -55,6 +56,16 @@ OfFound d segment fact = (v : VolumeState) (a : ℕ) → IsVolumeOf d v → find
 -- the volume's records hold a placed forest
 abbrev pub HasForest : Database → VolumeState → Type 0
 HasForest d v = (f : Forest Placed) × Holds d.types (links_of d.types v) f
+
+-- the row behind what a path leads to is the one at an address, of a type
+abbrev pub IsNextOn : List SegmentType → Links → List ℕ → ℕ → ℕ → Type 0
+IsNextOn types m path a code = (onward types path a code ≡ next_on types m path) × (code ≡ m.code a)
+
+-- wherever the last row of a path names this ahead of it, the row behind it is the one at an address, of a type
+abbrev pub IsTwinBy : Ahead → ℕ → ℕ → Type 0
+IsTwinBy ahead a code =
+    (d : Database) (v : VolumeState) (path : List ℕ) → IsVolumeOf d v → HasForest d v → AreSegments (links_of d.types v) path → 0 < tip path → IsAhead d.types (links_of d.types v) (tip path) ahead
+    → IsNextOn d.types (links_of d.types v) path a code
 
 -- wherever the last row of a path names this ahead of it, the new path leads to the row behind it
 abbrev pub IsNextBy : Database → Ahead → List ℕ → List ℕ → Type 0

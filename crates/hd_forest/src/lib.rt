@@ -32,4 +32,6 @@ pub use twins::{
     TwinPlaces, TwinsAround, forward_in, key_at, twin_from, twin_places, twins_around,
 };
 pub use unlink::unlink_span;
-pub use walk::{Ahead, ahead_of, go_on, next_after_span, next_row, twin_behind};
+pub use walk::{
+    Ahead, ahead_of, go_on, look_ahead, next_after_span, next_row, twin_ahead, twin_behind,
+};

@@ -4,7 +4,7 @@ ghost use Rattle.hd_volume.specs.Calls.{IsRead};
 ghost use Rattle.hd_links.specs.Links.{IsSegment};
 ghost use Rattle.hd_links.specs.Steps.{behind_span};
 ghost use Rattle.hd_image.specs.Records.{links_of, IsVolumeOf};
-ghost use Rattle.hd_forest.specs.Walks.{AreSegments, HasForest, IsAhead, IsNextBy, OfFound, tip, moved, next_on, next_after_span_on};
+ghost use Rattle.hd_forest.specs.Walks.{AreSegments, HasForest, IsAhead, IsNextBy, IsTwinBy, OfFound, tip, moved, next_on, next_after_span_on};
 ghost use Rattle.hd_forest.specs.Onward.{onward};
 ghost use Rattle.hd_forest.specs.Children.{beside};
 
@@ -94,10 +94,18 @@ pub fn twin_behind<S: BlockStore>(
         return Ok(None);
     }
     let ahead = look_ahead(volume, dbd, last)?;
+    Ok(twin_ahead(ahead))
+}
+
+/// The next twin of a row that names this ahead of it, where it has no row below it, and the code of their type; `None` where it has rows below it or no
+/// next twin.
+pub fn twin_ahead(ahead: Ahead) -> Option<(u32, u8)>
+    ensures { IfSome result (λ r. IsTwinBy ahead r.0 r.1) }
+{
     if ahead.below != 0 || ahead.twin == 0 {
-        return Ok(None);
+        return None;
     }
-    Ok(Some((ahead.twin, ahead.code)))
+    Some((ahead.twin, ahead.code))
 }
 
 /// Goes from the last row of a path, which names this ahead of it, to the first row below it or else to its next twin, and says
@@ -182,7 +190,7 @@ fn step<S: BlockStore>(
 }
 
 /// What the segment at an address names ahead of it. One segment is read.
-pub(crate) fn look_ahead<S: BlockStore>(
+pub fn look_ahead<S: BlockStore>(
     volume: &mut Volume<S>,
     dbd: &Dbd,
     address: u32,

@@ -1,4 +1,5 @@
 pub mod Lists
+pub mod RowsBehind
 pub mod Splices
 pub mod Rising
 pub mod Leaves

@@ -63,6 +63,7 @@ pub fn stand_behind<S: BlockStore>(
     requires of { IsTrue volume.now.is_sound → IsVolumeOf dbd.now volume.now }
     requires code { IsTrue volume.now.is_sound → code ≡ (links_of dbd.now.types volume.now).code address }
     requires parent { IsTrue volume.now.is_sound → KeepsParent kind position.old (onward dbd.now.types position.old.path address code) }
+    ensures path { position.new.path ≡ onward dbd.now.types position.old.path address code }
     ensures value { IsTrue volume.now.is_sound → StandsBehind dbd.now.types (links_of dbd.now.types volume.now) kind position.old address code hold position.new }
 {
     let _ = volume;

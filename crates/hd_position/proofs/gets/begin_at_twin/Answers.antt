@@ -5,7 +5,8 @@ use Rattle.hd_forest.specs.Walks.{AreSegments, next_on}
 use Rattle.hd_forest.specs.Onward.{onward}
 use Rattle.hd_forest.proofs.RowSteps.{row-steps}
 use Rattle.hd_position.specs.Kept.{Kept}
-use Rattle.hd_position.proofs.Getting.{begins_behind, begins_there, found_both}
+use Rattle.hd_position.proofs.Getting.{begins_there, found_both}
+use Rattle.hd_position.proofs.RowsBehind.{is_behind}
 use Rattle.hd_position.proofs.gets.begin_at_twin.Goals as goal
 
 pub twin_behind-requires-clause-holds : goal.twin_behind-requires-clause-holds
@@ -25,14 +26,6 @@ returns-clause-value g c =
     let u = c.args.volume.now in
     let m : Links = links_of d.types u in
     let k : Kept = c.args.position.now in
-    found_both c.twin_behind.result c.twin_behind.ensures.next c.twin_behind.ensures.code (λ r next code sound. (
-      λ f q at. record {
-        holds = at.holds;
-        within = at.stands.within;
-        is = ap (λ (path : List ℕ). onward d.types path r.0 r.1) (sym c.path.ensures)
-            ∙ next sound
-            ∙ ap (next_on d.types m) c.path.ensures
-            ∙ begins_behind d.types m f (row-steps d u f (c.requires.of sound) at.holds) k q at.stands;
-      },
-      code sound,
-    ))
+    found_both c.twin_behind.result c.twin_behind.ensures.next c.twin_behind.ensures.code (λ r next code sound.
+    is_behind d u (c.requires.of sound) k r.0 r.1
+    (ap (λ (path : List ℕ). onward d.types path r.0 r.1) (sym c.path.ensures) ∙ next sound ∙ ap (next_on d.types m) c.path.ensures, code sound))

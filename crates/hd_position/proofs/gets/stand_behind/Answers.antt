@@ -15,6 +15,9 @@ use Rattle.hd_position.proofs.gets.stand_behind.Goals as goal
 
 pub returns : goal.returns
 returns g c = record {
+  path =
+      let old : Kept = c.args.position.now in
+      ap (λ (k : Kept). k.path) c.stand_behind.ensures ∙ ap (λ (l : ℕ). take (l - 1) old.path ++ c.args.address ∷ []) c.level.ensures.level;
   value = λ sound f q i hold taken at on are.
       let d = c.args.dbd.now in
       let u = c.args.volume.now in
