@@ -23,3 +23,4 @@ pub mod Seeking
 pub mod NamedRows
 pub mod StandingPaths
 pub mod NextTwins
+pub mod RowsBehind

@@ -1,21 +1,13 @@
 -- A get without arguments that goes on to the row just behind those passed.
-use Rattle.std.specs.Prelude.{ℕ, [], Some}
-use Rattle.hd_dbd.specs.Hierarchy.{Database}
-use Rattle.hd_volume.specs.Volumes.{VolumeState}
-use Rattle.hd_forest.specs.Onward.{onward}
-use Rattle.hd_position.specs.Kept.{Kept}
-use Rattle.hd_get.specs.Starts.{StartsBelow}
-use Rattle.hd_get.specs.Gets.{GetCall}
-use Rattle.hd_get.specs.Found.{Begins, IsSought}
+use Rattle.std.specs.Prelude.{ℕ, List, Bool, true, false, ◌&&◌, nat_lt, is_some}
+use Rattle.hd_dbd.specs.Types.{SegmentType}
+use Rattle.hd_dbd.specs.Hierarchy.{level_of}
+use Rattle.hd_calls.specs.declared.call.GetKind.{GetKind}
+use Rattle.hd_calls.specs.declared.call.GetKind.TheVariants.{Unique, Next, NextInParent}
+use Rattle.hd_position.specs.Kept.{Kept, row_on}
 
--- GNP begins at the row at an address, of a type, just behind those passed, and stays below some row
-abbrev pub StartsBehind : Database → VolumeState → Kept → ℕ → ℕ → Type 0
-StartsBehind d v k a code = (parent : ℕ) × StartsBelow d v [] k (Some (parent, onward d.types k.path a code))
-
--- the get begins there, and stays below some row, or below all
-abbrev pub BeginsBehind : Database → VolumeState → GetCall → Kept → ℕ → ℕ → Type 0
-BeginsBehind d v c k a code = (parent : ℕ) × Begins d v c k (Some (parent, onward d.types k.path a code))
-
--- the row there is the one that the get seeks
-abbrev pub SeeksBehind : Database → VolumeState → GetCall → Kept → ℕ → ℕ → Type 0
-SeeksBehind d v c k a code = IsSought d v c k (Some (onward d.types k.path a code))
+-- a get of a kind without arguments begins at the row just behind those passed, where that is of a type: GNP where it is below the parentage row, GU never
+abbrev pub begins_behind : List SegmentType → GetKind → Kept → ℕ → Bool
+begins_behind types Unique k code = false
+begins_behind types Next k code = true
+begins_behind types NextInParent k code = is_some (row_on k.path k.parent) && nat_lt k.parent (level_of types code)

@@ -1,4 +1,4 @@
-ghost use Rattle.std.specs.Prelude.{◌≡◌, [], None, Some, IsTrue, cond, length, is_none, option_map, IfOk, IfErr, IfNone, IfSome};
+ghost use Rattle.std.specs.Prelude.{◌≡◌, [], true, None, Some, IsTrue, cond, length, is_none, option_map, IfOk, IfErr, IfNone, IfSome};
 ghost use Rattle.std.specs.List.{list_all};
 ghost use Rattle.hd_dbd.specs.Refusals.{OnlyDevice};
 ghost use Rattle.hd_volume.specs.Calls.{IsRead};
@@ -8,19 +8,24 @@ ghost use Rattle.hd_calls.specs.Gets.{crossing};
 ghost use Rattle.hd_position.specs.LastTypes.{place_of};
 ghost use Rattle.hd_calls.specs.Admits.{Descend};
 ghost use Rattle.hd_get.specs.Gets.{HasPosition, IsGot, levels_taken};
-ghost use Rattle.hd_get.specs.Behind.{SeeksBehind};
+ghost use Rattle.hd_dbd.specs.Letters.{gives_get};
+ghost use Rattle.hd_dbd.specs.Views.{may};
+ghost use Rattle.hd_forest.specs.Onward.{onward};
+ghost use Rattle.hd_position.specs.Behind.{IsBehind};
+ghost use Rattle.hd_get.specs.declared.outcome.Outcome.TheVariants.{Found};
+ghost use Rattle.hd_get.specs.Behind.{begins_behind};
 ghost use Rattle.hd_get.specs.Found.{IsSought, IsMissed, goes_back, status_between};
 
 use crate::arguments::target_code;
 use crate::call::Get;
 use crate::found_row::taken;
-use crate::next_twin::seek_next_twin;
+use crate::next_twin::begins_behind;
 use crate::outcome::Outcome;
 use crate::searches::seek;
 use hd_calls::GetKind;
-use hd_dbd::{Dbd, Refused, Status};
+use hd_dbd::{Access, Dbd, Refused, Status, may};
 use hd_forest::{Path, code_at, tip_of};
-use hd_position::{LastType, Levels, Position, stand_behind, stand_on};
+use hd_position::{LastType, Levels, Position, begin_at_twin, stand_behind, stand_on};
 use hd_ssa::ResolvedSsa;
 use hd_stores::BlockStore;
 use hd_volume::Volume;
@@ -87,25 +92,27 @@ fn leave_on<S: BlockStore>(
     Outcome::Found(status_between(call, last, position.last()))
 }
 
-/// Leaves a PCB on the row that a get without arguments has found, at an address, of a type, just behind the rows passed. Nothing is read.
-fn leave_behind<S: BlockStore>(
+/// A get without arguments that begins at the row just behind those that its PCB has passed, which stands at an address and is of a type that the PCB may read:
+/// leaves the PCB there, and says the status. Nothing is read.
+pub fn get_behind<S: BlockStore>(
     volume: &Volume<S>,
     dbd: &Dbd,
     call: &Get<'_>,
     position: &mut Position,
     address: u32,
     code: u8,
-) -> Outcome
+) -> Status
     requires bare { call.now.ssas ≡ [] }
-    requires descend { Descend dbd.now.types None call.now.ssas }
+    requires begins { begins_behind dbd.now.types call.now.kind position.old code ≡ true }
+    requires may { may (record { types = dbd.now.types; pcb = call.now.pcb }) gives_get code ≡ true }
     requires there { HasPosition dbd.now volume.now position.old }
-    requires sought { SeeksBehind dbd.now volume.now call.now position.old address code }
-    requires code { IsTrue volume.now.is_sound → code ≡ (links_of dbd.now.types volume.now).code address }
-    ensures value { IsGot dbd.now volume.now call.now position.old result position.new }
+    requires behind { IsTrue volume.now.is_sound → IsBehind dbd.now.types (links_of dbd.now.types volume.now) position.old address code }
+    ensures value { IsGot dbd.now volume.now call.now position.old (Found result) position.new }
+    ensures path { position.new.path ≡ onward dbd.now.types position.old.path address code }
 {
     let last = position.last();
     stand_behind(volume, dbd, position, address, code, call.kind, call.hold);
-    Outcome::Found(status_between(call, last, position.last()))
+    status_between(call, last, position.last())
 }
 
 /// Leaves a PCB on the row that a get has found, of the type of its last argument; without arguments the type is read, one access.
@@ -138,20 +145,25 @@ fn get_next_twin<S: BlockStore>(
     dbd: &Dbd,
     call: &Get<'_>,
     position: &mut Position,
-) -> Result<Option<Outcome>, Refused>
+) -> Result<Option<Status>, Refused>
     requires bare { call.now.ssas ≡ [] }
-    requires descend { Descend dbd.now.types None call.now.ssas }
     requires there { HasPosition dbd.now volume.old position.old }
     ensures read { IsRead volume.old result volume.new }
-    ensures value { IfOk result (λ o. IfSome o (λ outcome. IsGot dbd.now volume.old call.now position.old outcome position.new)) }
+    ensures value { IfOk result (λ o. IfSome o (λ status. IsGot dbd.now volume.old call.now position.old (Found status) position.new)) }
     ensures stays { IfOk result (λ o. IfNone o (position.new ≡ position.old)) }
     ensures kept { IfErr result (λ _. position.new ≡ position.old) }
     ensures refusal { OnlyDevice result }
 {
-    let Some((twin, code)) = seek_next_twin(volume, dbd, call, position)? else {
+    if call.kind == GetKind::Unique {
+        return Ok(None);
+    }
+    let Some((twin, code)) = begin_at_twin(volume, dbd, position)? else {
         return Ok(None);
     };
-    Ok(Some(leave_behind(volume, dbd, call, position, twin, code)))
+    if !begins_behind(dbd, call, position, code) || !may(dbd, call.pcb, Access::Get, code) {
+        return Ok(None);
+    }
+    Ok(Some(get_behind(volume, dbd, call, position, twin, code)))
 }
 
 /// Whether no argument is qualified.
@@ -238,7 +250,7 @@ pub fn get<S: BlockStore>(
         return get_by_search(volume, dbd, call, position);
     }
     match get_next_twin(volume, dbd, call, position)? {
-        Some(outcome) => Ok(outcome),
+        Some(status) => Ok(Outcome::Found(status)),
         None => get_by_search(volume, dbd, call, position),
     }
 }

@@ -25,7 +25,7 @@ mod type_paths;
 mod verdict;
 mod ways;
 
-pub use answers::get;
+pub use answers::{get, get_behind};
 pub use arguments::target_code;
 pub use by_key::unique_by_key;
 pub use call::Get;
@@ -33,6 +33,7 @@ pub use first_row::first_named;
 pub use found_row::taken;
 pub use judge::Judge;
 pub use named::Named;
+pub use next_twin::begins_behind;
 pub use outcome::Outcome;
 pub use root_search::find;
 pub use type_paths::type_path;

@@ -1,5 +1,5 @@
 -- The row that a get found, and its answer.
-use Rattle.std.proofs.Common.{◌≡◌, ℕ, suc, ◌+◌, List, length, map, Bool, true, false, cond, Option, Some, None, IsTrue, refl, sym, ap, ◌∙◌, subst, arith}
+use Rattle.std.proofs.Common.{◌≡◌, ℕ, suc, ◌+◌, List, [], ◌∷◌, length, map, Bool, true, false, cond, Option, Some, None, IsTrue, refl, sym, ap, ◌∙◌, subst, arith}
 use Rattle.std.specs.Prelude.{is_none}
 use Rattle.std.specs.List.{list_all}
 use Rattle.hd_dbd.specs.declared.answer.Status.{Status}
@@ -123,3 +123,16 @@ given_path {reply} d v p p2 levels status same given = subst (λ (x : List ℕ).
 pub given_same : {reply : Reply} (d : Database) (v : VolumeState) (p p2 ls ls2 : List ℕ) (status : Status) → p ≡ p2 → ls ≡ ls2 → IsGiven d v p ls status reply → IsGiven d v p2 ls2 status reply
 given_same {reply} d v p p2 ls ls2 status same levels given =
     subst (λ (x : List ℕ). IsGiven d v p2 x status reply) levels (subst (λ (x : List ℕ). IsGiven d v x ls status reply) same given)
+
+-- what is given of the rows that a get returns
+pub given_taken : {reply : Reply} (d : Database) (v : VolumeState) (p p2 : List ℕ) (ssas : List Ssa) (status : Status) → p ≡ p2 → IsGiven d v p (levels_taken d.types ssas (length p)) status reply
+    → IsGiven d v p2 (levels_taken d.types ssas (length p2)) status reply
+given_taken {reply} d v p p2 ssas status same given = subst (λ (x : List ℕ). IsGiven d v x (levels_taken d.types ssas (length x)) status reply) same given
+
+pub given_asked : {reply : Reply} (d : Database) (v : VolumeState) (p : List ℕ) (ssas other : List Ssa) (status : Status) → ssas ≡ other → IsGiven d v p (levels_taken d.types ssas (length p)) status reply
+    → IsGiven d v p (levels_taken d.types other (length p)) status reply
+given_asked {reply} d v p ssas other status same given = subst (λ (x : List Ssa). IsGiven d v p (levels_taken d.types x (length p)) status reply) same given
+
+-- what is given of the last row alone
+pub given_alone : {reply : Reply} (d : Database) (v : VolumeState) (p p2 : List ℕ) (status : Status) → p ≡ p2 → IsGiven d v p (length p ∷ []) status reply → IsGiven d v p2 (length p2 ∷ []) status reply
+given_alone {reply} d v p p2 status same given = subst (λ (x : List ℕ). IsGiven d v x (length x ∷ []) status reply) same given

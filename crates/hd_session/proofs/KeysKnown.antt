@@ -1,24 +1,29 @@
 -- The keys of the rows above that are known, as they are added, kept and noted.
-use Rattle.std.proofs.Common.{◌≡◌, inl, inr, ℕ, ◌+◌, ◌-◌, ◌<◌, ◌≤◌, List, [], ◌∷◌, ◌++◌, length, take, drop, Bool, true, false, Ok, Err, IsTrue, arith, refl, sym, ap, ap₂, subst, ◌∙◌}
+use Rattle.std.proofs.Common.{◌≡◌, inl, inr, ℕ, ◌+◌, ◌-◌, ◌<◌, ◌≤◌, List, [], ◌∷◌, ◌++◌, length, take, drop, Bool, true, false, Ok, Err, Some, IsTrue, arith, refl, sym, ap, ap₂, subst, ◌∙◌}
 use Rattle.std.specs.Prelude.{◌==◌, ◌&&◌, ◌||◌, nat_lt, cond, flat_map, Result, IfOk, OnOk}
 use Rattle.std.specs.List.{starts_with}
 use Rattle.std.proofs.Math.Seq.{take-append_seam, take-length}
-use Rattle.std.proofs.lemmas.Bool.{false≢true, ltb-true, eqb-true}
+use Rattle.std.proofs.lemmas.List.{length-append}
+use Rattle.std.proofs.lemmas.Bool.{false≢true, lt-ltb, ltb-true, eqb-true}
 use Rattle.std.proofs.lemmas.Bool.Decides.{Decides-eqb}
 use Rattle.std.proofs.lemmas.Slice.Eq.{starts_is}
 use Rattle.hd_dbd.specs.Types.{SegmentType}
 use Rattle.hd_dbd.specs.Hierarchy.{Database}
 use Rattle.hd_dbd.specs.Rows.{key_of}
+use Rattle.hd_dbd.specs.Calls.{Reply}
 use Rattle.hd_dbd.specs.declared.answer.Refused.{Refused}
+use Rattle.hd_dbd.specs.declared.answer.Status.{Status}
 use Rattle.hd_volume.specs.Volumes.{VolumeState}
 use Rattle.hd_volume.specs.Calls.{IsRead}
 use Rattle.hd_links.specs.Links.{Links, segment_at}
 use Rattle.hd_image.specs.Records.{links_of}
-use Rattle.hd_forest.specs.Walks.{tip}
+use Rattle.hd_forest.specs.declared.walk.Ahead.{Ahead}
+use Rattle.hd_forest.specs.Rows.{IsOnRow}
+use Rattle.hd_forest.specs.Walks.{IsAhead, tip}
 use Rattle.hd_forest.proofs.Reading.{after-read, links-kept}
 use Rattle.hd_session.specs.Buffer.{Buffer}
-use Rattle.hd_session.specs.Giving.{IsEmpty, IsCodeOn, HasAdded, is_among, bytes_at, with_path}
-use Rattle.hd_session.specs.Above.{Above, above_nothing, AreKeysIn, AreKeysOf, AreNoted, is_begun_by, are_below}
+use Rattle.hd_session.specs.Giving.{IsEmpty, IsGiven, IsCodeOn, HasAdded, is_among, bytes_at, with_path}
+use Rattle.hd_session.specs.Above.{Above, above_nothing, AreKeysIn, IsSeenIn, AreKeysOf, IsJustBelow, AreNoted, is_begun_by, are_below}
 
 -- ---- what is added of them
 
@@ -54,6 +59,18 @@ begun path above is =
       ap (take (length above.path)) first ∙ take-append_seam above.path (drop (length above.path) path),
     )
 
+-- a path that goes from there to a row of the level below the rows leads just below them
+pub just_below : (path : List ℕ) (above : Above) (level a : ℕ) → level ≡ length above.path + 1 → is_begun_by path above ≡ true → IsJustBelow (take (level - 1) path ++ a ∷ []) above
+just_below path above level a at is =
+    let rows : List ℕ = above.path in
+    let first : take (level - 1) path ++ a ∷ [] ≡ rows ++ a ∷ []
+    = ap (λ n. take n path ++ a ∷ []) (let e : level - 1 ≡ length rows = omega (arith, at) in e) ∙ ap (λ (xs : List ℕ). xs ++ a ∷ []) (begun path above is).1 in
+    let long : length (rows ++ a ∷ []) ≡ length rows + 1 = length-append rows (a ∷ []) in
+    let starts : starts_with (λ a b. a == b) (rows ++ a ∷ []) rows ≡ true
+    = (starts_is Decides-eqb (rows ++ a ∷ []) rows (starts_with (λ a b. a == b) (rows ++ a ∷ []) rows) refl).1 (a ∷ []) refl in
+    let lower : nat_lt (length rows) (length (rows ++ a ∷ [])) ≡ true = lt-ltb (length rows) (length (rows ++ a ∷ [])) (omega (arith, long)) in
+    subst (λ (xs : List ℕ). IsJustBelow xs above) (sym first) (long, ap₂ (λ (a b : Bool). a && b) lower starts)
+
 -- the keys that are known are all that the rows add
 pub known_added : (types : List SegmentType) (m : Links) (levels path : List ℕ) (room : ℕ) (above : Above) → is_begun_by path above ≡ true → are_below levels (length above.path) ≡ true
     → AreKeysIn types m above → record { key = above.keys; area = []; room = room } ≡ with_path types m levels room (take (length above.path) path)
@@ -70,7 +87,17 @@ none_added types m levels path b empty = ap₂ (λ (k a : List ℕ). record { ke
 module _ {A : Type 0} {x : A} (d : Database) (u v : VolumeState) (read : IsRead {T = A} u (Ok x) v) where
   -- the keys are still those of the rows
   pub keys_kept : (above : Above) → AreKeysOf d u above → AreKeysOf d v above
-  keys_kept above known = links-kept d (λ m. AreKeysIn d.types m above) u v read known
+  keys_kept above known = links-kept d (λ m. AreKeysIn d.types m above × IsSeenIn d.types m above) u v read known
+
+  -- and a segment names what it named ahead of it
+  pub ahead_kept : (a : ℕ) (ahead : Ahead) → (IsTrue u.is_sound → IsAhead d.types (links_of d.types u) a ahead) → IsTrue v.is_sound → IsAhead d.types (links_of d.types v) a ahead
+  ahead_kept a ahead known = links-kept d (λ m. IsAhead d.types m a ahead) u v read known
+
+  -- what is given behind the call is given before it
+  pub given_before : (path levels : List ℕ) (status : Status) (reply : Reply) → IsGiven d v path levels status reply → IsGiven d u path levels status reply
+  given_before path levels status reply given f i taken pcb at =
+      let same = after-read d u v read at.sound in
+      given f i taken pcb (record { sound = same.sound; row = subst (λ (m : Links). IsOnRow d.types m f path i) (sym same.links) at.row; rows = at.rows; ascend = at.ascend })
 
   -- and the buffer has what it had
   pub added_kept : (path levels : List ℕ) (n : ℕ) (b : Buffer) → HasAdded d u path levels n b → HasAdded d v path levels n b
@@ -91,14 +118,20 @@ added_all d v path levels b has sound = has sound ∙ ap (with_path d.types (lin
 
 -- where no row is known, all that is known is so
 pub nothing_known : (d : Database) (v : VolumeState) (above : Above) → above ≡ above_nothing → AreKeysOf d v above
-nothing_known d v above none sound = subst (AreKeysIn d.types (links_of d.types v)) (sym none) refl
+nothing_known d v above none sound = subst (λ (x : Above). AreKeysIn d.types (links_of d.types v) x × IsSeenIn d.types (links_of d.types v) x) (sym none) (refl, tt)
 
 -- what is noted of the rows above is known
 pub noted : (d : Database) (v : VolumeState) (path levels : List ℕ) (n : ℕ) (b : Buffer) (above : Above) → n ≡ length path - 1 → HasAdded d v path levels n b → AreNoted path b.key above → AreKeysOf d v above
 noted d v path levels n b above last has (inl none) sound = nothing_known d v above none sound
 noted d v path levels n b above last has (inr some) sound =
-    subst (AreKeysIn d.types (links_of d.types v)) (sym some)
-    (ap (λ (x : Buffer). x.key) (has sound) ∙ ap (λ k. flat_map (λ a. key_of d.types (segment_at (links_of d.types v) a)) (take k path)) last)
+    subst (λ (x : Above). AreKeysIn d.types (links_of d.types v) x × IsSeenIn d.types (links_of d.types v) x) (sym some)
+    (ap (λ (x : Buffer). x.key) (has sound) ∙ ap (λ k. flat_map (λ a. key_of d.types (segment_at (links_of d.types v) a)) (take k path)) last, tt)
+
+-- what a segment was seen to name ahead of it is known too
+pub seen : (d : Database) (v : VolumeState) (old new : Above) (a : ℕ) (ahead : Ahead) → new ≡ record old { seen = Some (a, ahead) } → AreKeysOf d v old
+    → (IsTrue v.is_sound → IsAhead d.types (links_of d.types v) a ahead) → AreKeysOf d v new
+seen d v old new a ahead is known named sound =
+    subst (λ (x : Above). AreKeysIn d.types (links_of d.types v) x × IsSeenIn d.types (links_of d.types v) x) (sym is) ((known sound).0, named sound)
 
 -- where a call is answered, what holds of all answers holds of its own
 pub if_ok_any : {A : Type 0} {P : A → Type 0} (r : Result A Refused) → ((x : A) → P x) → IfOk r P

@@ -12,4 +12,5 @@ pub mod Logged
 pub mod Turns
 pub mod Foretelling
 pub mod Requests
+pub mod Onward
 pub mod Laws

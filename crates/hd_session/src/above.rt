@@ -1,19 +1,21 @@
-ghost use Rattle.std.specs.Prelude.{◌≡◌, ◌≤◌, length};
+ghost use Rattle.std.specs.Prelude.{◌≡◌, ◌≤◌, ◌<◌, length, Some, IfSome};
 ghost use Rattle.hd_session.specs.Above.{above_nothing, is_begun_by, AreNoted};
 ghost use Rattle.hd_session.specs.Buffer.{KEY_ROOM};
 
 use crate::buffer::KEY_ROOM;
-use hd_forest::Path;
+use hd_forest::{Ahead, Path};
 use std::alloc::Global;
 use std::marker::Model;
 
-/// The rows above the one that was given last, and their keys: where the next answer is of a row below them, they need not be read again.
+/// What is known of the row that was given last. The rows above it, and their keys: where the next answer is of a row below them, they need not be read again.
+/// And what a row names ahead of it: where a get goes on from there, that row need not be read again.
 ///
-/// Room for the keys is made at once; where there was none, no rows are ever noted.
-#[derive(Debug, Drop)]
+/// Room for the keys is made at once; where there was none, no rows above are ever noted.
+#[derive(Drop)]
 pub struct KeysAbove {
     path: Path,
     keys: Vec<u8>,
+    seen: Option<(u32, Ahead)>,
 }
 
 impl Model for KeysAbove {
@@ -23,7 +25,7 @@ impl Model for KeysAbove {
 
     ghost Value = { Above };
 
-    ghost view = { λ k. record { path = k.path; keys = k.keys.items } };
+    ghost view = { λ k. record { path = k.path; keys = k.keys.items; seen = k.seen } };
 
     ghost invariant = { λ k. length k.keys.items ≤ KEY_ROOM };
 }
@@ -40,6 +42,7 @@ impl KeysAbove {
         KeysAbove {
             path: Path::new(),
             keys,
+            seen: None,
         }
     }
 
@@ -53,7 +56,8 @@ impl KeysAbove {
 
     /// The level of the last of the rows, 0 for no row.
     pub fn level(&self) -> u8
-        ensures { result ≡ length self.now.path }
+        ensures value { result ≡ length self.now.path }
+        ensures few { result ≤ 15 }
     {
         self.path.level()
     }
@@ -71,6 +75,24 @@ impl KeysAbove {
     {
         self.path.clear();
         self.keys.clear();
+        self.seen = None;
+    }
+
+    /// What the row at an address names ahead of it, where that is known.
+    pub fn ahead_of(&self, address: u32) -> Option<Ahead>
+        ensures { IfSome result (λ ahead. (0 < address) × (self.now.seen ≡ Some (address, ahead))) }
+    {
+        match self.seen {
+            Some((row, ahead)) if row == address && row > 0 => Some(ahead),
+            _ => None,
+        }
+    }
+
+    /// Notes what the row at an address names ahead of it.
+    pub fn see(&mut self, address: u32, ahead: Ahead)
+        ensures { self.new ≡ record self.old { seen = Some (address, ahead) } }
+    {
+        self.seen = Some((address, ahead));
     }
 
     /// Notes the rows above the last of a path, and their keys, where there is room. No memory is taken.

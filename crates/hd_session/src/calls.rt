@@ -1,4 +1,4 @@
-ghost use Rattle.std.specs.Prelude.{◌≡◌, ◌≢◌, ◌<◌, ◌≤◌, Ok, Some, length, true, IsTrue, IfOk, IfErr};
+ghost use Rattle.std.specs.Prelude.{◌≡◌, ◌≢◌, ◌<◌, ◌≤◌, [], Ok, Some, length, true, IsTrue, IfOk, IfErr};
 ghost use Rattle.hd_dbd.specs.Facts.{stored_sizes};
 ghost use Rattle.hd_dbd.specs.Hierarchy.{longest_path};
 ghost use Rattle.hd_dbd.specs.Refusals.{OnlyDevice};
@@ -15,6 +15,7 @@ ghost use Rattle.hd_session.specs.Replies.{reply_of};
 ghost use Rattle.hd_session.specs.Giving.{IsEmpty};
 ghost use Rattle.hd_session.specs.Above.{AreKeysOf};
 ghost use Rattle.hd_session.specs.Foretelling.{is_get, is_get_call};
+ghost use Rattle.hd_session.specs.Onward.{AreReadable};
 ghost use Rattle.hd_session.specs.Inserts.{AreArgumentsOf};
 ghost use Rattle.hd_session.specs.Sessions.{IsStepDone, IsUndoneUnlessDevice, IsRoomLacking, IsMemoryLacking, own_in, call_in, IfFewNoInsert};
 
@@ -23,13 +24,14 @@ use crate::accepted::Accepted;
 use crate::buffer::IoArea;
 use crate::call_and_answer::{Answer, Call};
 use crate::functions::function_of;
-use crate::get_answers::answer_get;
+use crate::get_answers::{answer_behind, answer_get};
 use crate::given_rows::give_none;
 use crate::insert_answers::answer_isrt;
 use crate::load_answers::answer_load;
+use crate::next_twin::known_behind;
 use crate::tests_by_function::last_test;
 use crate::update_answers::{answer_dlet, answer_repl};
-use hd_calls::Function;
+use hd_calls::{Function, GetKind};
 use hd_dbd::{Dbd, Pcb, Refused, Status};
 use hd_get::Get;
 use hd_position::Position;
@@ -249,6 +251,68 @@ fn answer_named<S: BlockStore>(
     }
 }
 
+/// A get without segment search arguments: where it is known where it goes on, nothing but its row is looked at.
+fn answer_bare_get<S: BlockStore>(
+    volume: &mut Volume<S>,
+    dbd: &Dbd,
+    pcb: &Pcb,
+    positions: &mut [Position],
+    number: usize,
+    call: &Call,
+    kind: GetKind,
+    hold: bool,
+    readable: &mut Option<u8>,
+    above: &mut KeysAbove,
+    io: &mut IoArea,
+) -> Result<Answer, Refused>
+    requires number { (0 < number) × (number ≤ length positions.old) }
+    requires size { volume.old.size ≡ dbd.now.block_size }
+    requires sizes { volume.old.sizes ≡ stored_sizes dbd.now.types }
+    requires state { HasState dbd.now volume.old positions.old }
+    requires loader { loads pcb.now ≡ true → HasPassedAll dbd.now volume.old positions.old number }
+    requires readable { AreReadable dbd.now.types pcb.now readable.old }
+    requires known { AreKeysOf dbd.now volume.old above.old }
+    requires room { longest_path dbd.now.types ≤ io.old.room }
+    requires empty { IsEmpty io.old }
+    requires named { function_of call.now.function ≡ Some (Function.Get kind hold) }
+    requires bare { call.now.ssas ≡ [] }
+    ensures read { IsRead volume.old result volume.new }
+    ensures readable { AreReadable dbd.now.types pcb.now readable.new }
+    ensures known { IfOk result (λ _. AreKeysOf dbd.now volume.new above.new) }
+    ensures done { IfOk result (λ a. IsStepDone dbd.now volume.old positions.old number (call_in dbd.now pcb.now number call.now) (reply_of a io.new) volume.new positions.new) }
+    ensures empty { IfErr result (λ _. IsEmpty io.new) }
+    ensures same_room { io.new.room ≡ io.old.room }
+    ensures many { length positions.new ≡ length positions.old }
+    ensures refusal { OnlyDevice result }
+{
+    let get = Get {
+        pcb,
+        kind,
+        hold,
+        ssas: &[],
+    };
+    match known_behind(dbd, &get, &positions[number - 1], readable, above) {
+        Some((twin, code)) => {
+            answer_behind(volume, dbd, positions, number, &get, twin, code, above, io)
+        }
+        None => {
+            let function = Function::Get(kind, hold);
+            answer_tested(
+                volume,
+                dbd,
+                pcb,
+                positions,
+                number,
+                call,
+                function,
+                &[],
+                above,
+                io,
+            )
+        }
+    }
+}
+
 /// One call of the PCB of a number, counted from 1: its tests in their order, of which the first that fails answers, and then its own work. The tests are AD for
 /// the function, AJ, AC and AK for the segment search arguments, AM for PROCOPT, AH where ISRT has no argument, DJ where nothing is held, GP where GNP has no parent.
 ///
@@ -261,6 +325,7 @@ pub fn call_step<S: BlockStore>(
     positions: &mut [Position],
     number: usize,
     call: &Call,
+    readable: &mut Option<u8>,
     above: &mut KeysAbove,
     io: &mut IoArea,
 ) -> Result<Answer, Refused>
@@ -269,8 +334,10 @@ pub fn call_step<S: BlockStore>(
     requires sizes { volume.old.sizes ≡ stored_sizes dbd.now.types }
     requires state { HasState dbd.now volume.old positions.old }
     requires loader { loads pcb.now ≡ true → HasPassedAll dbd.now volume.old positions.old number }
+    requires readable { AreReadable dbd.now.types pcb.now readable.old }
     requires known { AreKeysOf dbd.now volume.old above.old }
     requires room { longest_path dbd.now.types ≤ io.old.room }
+    ensures readable { AreReadable dbd.now.types pcb.now readable.new }
     ensures call { IsCall volume.old result volume.new }
     ensures known { IfOk result (λ _. AreKeysOf dbd.now volume.new above.new) }
     ensures done { IfOk result (λ a. IsStepDone dbd.now volume.old positions.old number (call_in dbd.now pcb.now number call.now) (reply_of a io.new) volume.new positions.new) }
@@ -291,21 +358,26 @@ pub fn call_step<S: BlockStore>(
         return Ok(fail(positions, number, Status::AD, io));
     };
     let texts = call.ssas.as_slice();
-    if texts.is_empty() {
-        return answer_tested(
-            volume,
-            dbd,
-            pcb,
-            positions,
-            number,
-            call,
-            function,
-            &[],
-            above,
-            io,
+    if !texts.is_empty() {
+        return answer_named(
+            alloc, volume, dbd, pcb, positions, number, call, function, above, io,
         );
     }
-    answer_named(
-        alloc, volume, dbd, pcb, positions, number, call, function, above, io,
+    if let Function::Get(kind, hold) = function {
+        return answer_bare_get(
+            volume, dbd, pcb, positions, number, call, kind, hold, readable, above, io,
+        );
+    }
+    answer_tested(
+        volume,
+        dbd,
+        pcb,
+        positions,
+        number,
+        call,
+        function,
+        &[],
+        above,
+        io,
     )
 }

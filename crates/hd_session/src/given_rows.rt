@@ -1,4 +1,4 @@
-ghost use Rattle.std.specs.Prelude.{◌≡◌, ◌<◌, ◌≤◌, ◌-◌, ℕ, List, IsTrue, IfOk, IfErr, OnOk, length, option_map, take};
+ghost use Rattle.std.specs.Prelude.{◌≡◌, ◌<◌, ◌≤◌, ◌-◌, ℕ, List, [], ◌∷◌, true, IsTrue, IfOk, IfErr, OnOk, length, option_map, take};
 ghost use Rattle.hd_dbd.specs.Hierarchy.{longest_path, type_of};
 ghost use Rattle.hd_dbd.specs.Types.{SegmentType};
 ghost use Rattle.hd_dbd.specs.Calls.{bare};
@@ -8,17 +8,18 @@ ghost use Rattle.hd_volume.specs.Volumes.{VolumeState};
 ghost use Rattle.hd_prefix.specs.Fields.{code_of};
 ghost use Rattle.hd_links.specs.Links.{Links};
 ghost use Rattle.hd_image.specs.Records.{links_of};
+ghost use Rattle.hd_forest.specs.Walks.{IsAhead};
 ghost use Rattle.hd_get.specs.Meeting.{IsStored};
 ghost use Rattle.hd_get.specs.Searches.{IsOf, IsThere};
 ghost use Rattle.hd_session.specs.Replies.{reply_of};
 ghost use Rattle.hd_session.specs.Giving.{IsGiven, IsEmpty, IsSegmentAdded, HasRoom, with_row, is_among, with_path, IsAnswerOf, IsCodeOn, HasAdded};
-ghost use Rattle.hd_session.specs.Above.{AreKeysIn, AreKeysOf, are_below};
+ghost use Rattle.hd_session.specs.Above.{AreKeysIn, AreKeysOf, IsJustBelow, are_below};
 
 use crate::above::KeysAbove;
 use crate::buffer::IoArea;
 use crate::call_and_answer::Answer;
 use hd_dbd::{Dbd, Name8, Refused, Status};
-use hd_forest::{Path, bytes_in};
+use hd_forest::{Ahead, Path, ahead_of, bytes_in, look_ahead, tip_of};
 use hd_position::Levels;
 use hd_stores::BlockStore;
 use hd_volume::Volume;
@@ -42,7 +43,10 @@ fn add_row(dbd: &Dbd, code: u8, bytes: &[u8], is_given: bool, io: &mut IoArea)
     ensures added { HasRoom dbd.now.types (record { code = code; bytes = bytes.now }) io.old → io.new ≡ with_row dbd.now.types is_given (record { code = code; bytes = bytes.now }) io.old }
     ensures same_room { io.new.room ≡ io.old.room }
 {
-    io.add_key(dbd.key_of(code, bytes));
+    let key = dbd.key_of(code, bytes);
+    if !key.is_empty() {
+        io.add_key(key);
+    }
     if is_given {
         io.add_area(bytes);
     }
@@ -75,6 +79,28 @@ fn add_segment<S: BlockStore>(
     let code = code_in(segment);
     add_row(dbd, code, bytes_in(dbd, segment), is_given, io);
     Ok(code)
+}
+
+/// Adds the key of the segment at an address, and its bytes, and says its code and what it names ahead of it. One access.
+fn add_seen<S: BlockStore>(
+    volume: &mut Volume<S>,
+    dbd: &Dbd,
+    address: u32,
+    io: &mut IoArea,
+) -> Result<(u8, Ahead), Refused>
+    requires of { IsOf dbd.now volume.old }
+    requires there { IsStored dbd.now volume.old address }
+    ensures read { IsRead volume.old result volume.new }
+    ensures code { IfOk result (λ r. IsTrue volume.old.is_sound → r.0 ≡ (links_of dbd.now.types volume.old).code address) }
+    ensures ahead { IfOk result (λ r. IsTrue volume.old.is_sound → IsAhead dbd.now.types (links_of dbd.now.types volume.old) address r.1) }
+    ensures added { OnOk result (IsTrue volume.old.is_sound → IsSegmentAdded dbd.now volume.old address true io.old io.new) }
+    ensures same_room { io.new.room ≡ io.old.room }
+    ensures refusal { OnlyDevice result }
+{
+    let segment = volume.segment_at(address)?;
+    let code = code_in(segment);
+    add_row(dbd, code, bytes_in(dbd, segment), true, io);
+    Ok((code, ahead_of(dbd, segment)))
 }
 
 /// Adds the keys of the rows on a path, and the bytes of those at the levels: behind what so many rows gave, what those up to another give. Says the code of
@@ -155,6 +181,36 @@ fn add_known<S: BlockStore>(
     add_path(volume, dbd, path, levels, known, last, io)?;
     above.note(path, io.key());
     add_path(volume, dbd, path, levels, last, rows, io)
+}
+
+/// Adds the keys of the rows on a path to an empty area, whose last stands just below the rows above that are known, and the bytes of the last; notes what that
+/// names ahead of it. Says its code. One access.
+fn add_below<S: BlockStore>(
+    volume: &mut Volume<S>,
+    dbd: &Dbd,
+    path: &Path,
+    above: &mut KeysAbove,
+    io: &mut IoArea,
+) -> Result<u8, Refused>
+    requires of { IsOf dbd.now volume.old }
+    requires there { IsThere dbd.now volume.old path.now }
+    requires known { AreKeysOf dbd.now volume.old above.old }
+    requires below { IsJustBelow path.now above.old }
+    requires empty { IsEmpty io.old }
+    requires room { longest_path dbd.now.types ≤ io.old.room }
+    ensures read { IsRead volume.old result volume.new }
+    ensures added { OnOk result (HasAdded dbd.now volume.old path.now (length path.now ∷ []) (length path.now) io.new) }
+    ensures code { IfOk result (λ code. IsCodeOn dbd.now volume.old path.now (length path.now) code) }
+    ensures known { OnOk result (AreKeysOf dbd.now volume.new above.new) }
+    ensures same_room { io.new.room ≡ io.old.room }
+    ensures refusal { OnlyDevice result }
+{
+    io.push_key(above.keys());
+    let addresses = path.addresses();
+    let address = addresses[addresses.len() - 1];
+    let (code, ahead) = add_seen(volume, dbd, address, io)?;
+    above.see(address, ahead);
+    Ok(code)
 }
 
 /// The name of the type of a code.
@@ -277,6 +333,67 @@ pub fn give_known<S: BlockStore>(
         io.clear();
     }
     given
+}
+
+/// The same answer, into an empty area. What the last row of the path names ahead of it is known from then on; that is one access more.
+pub fn give_and_look<S: BlockStore>(
+    volume: &mut Volume<S>,
+    dbd: &Dbd,
+    path: &Path,
+    levels: &Levels,
+    status: Status,
+    above: &mut KeysAbove,
+    io: &mut IoArea,
+) -> Result<Answer, Refused>
+    requires of { IsOf dbd.now volume.old }
+    requires there { IsThere dbd.now volume.old path.now }
+    requires known { AreKeysOf dbd.now volume.old above.old }
+    requires empty { IsEmpty io.old }
+    requires room { longest_path dbd.now.types ≤ io.old.room }
+    ensures read { IsRead volume.old result volume.new }
+    ensures given { IfOk result (λ a. IsGiven dbd.now volume.old path.now levels.now status (reply_of a io.new)) }
+    ensures known { IfOk result (λ _. AreKeysOf dbd.now volume.new above.new) }
+    ensures empty { IfErr result (λ _. IsEmpty io.new) }
+    ensures same_room { io.new.room ≡ io.old.room }
+    ensures refusal { OnlyDevice result }
+{
+    let address = tip_of(path);
+    let ahead = look_ahead(volume, dbd, address)?;
+    let answer = give_known(volume, dbd, path, levels, status, above, io)?;
+    above.see(address, ahead);
+    Ok(answer)
+}
+
+/// The answer that gives the last row of a path, just below the rows above that are known, into an empty area. What the row names ahead of it is known from then
+/// on. One access, and no memory is taken.
+pub fn give_below<S: BlockStore>(
+    volume: &mut Volume<S>,
+    dbd: &Dbd,
+    path: &Path,
+    status: Status,
+    above: &mut KeysAbove,
+    io: &mut IoArea,
+) -> Result<Answer, Refused>
+    requires of { IsOf dbd.now volume.old }
+    requires there { IsThere dbd.now volume.old path.now }
+    requires known { AreKeysOf dbd.now volume.old above.old }
+    requires below { IsJustBelow path.now above.old }
+    requires empty { IsEmpty io.old }
+    requires room { longest_path dbd.now.types ≤ io.old.room }
+    ensures read { IsRead volume.old result volume.new }
+    ensures given { IfOk result (λ a. IsGiven dbd.now volume.old path.now (length path.now ∷ []) status (reply_of a io.new)) }
+    ensures known { IfOk result (λ _. AreKeysOf dbd.now volume.new above.new) }
+    ensures empty { IfErr result (λ _. IsEmpty io.new) }
+    ensures same_room { io.new.room ≡ io.old.room }
+    ensures refusal { OnlyDevice result }
+{
+    match add_below(volume, dbd, path, above, io) {
+        Ok(code) => Ok(answer_of(dbd, path, code, status)),
+        Err(refused) => {
+            io.clear();
+            Err(refused)
+        }
+    }
 }
 
 /// The answer of a status that gives no row.

@@ -13,6 +13,7 @@ mod given_rows;
 mod insert_answers;
 mod law;
 mod load_answers;
+mod next_twin;
 mod opening;
 mod outlook;
 mod parent;

@@ -5,6 +5,7 @@ ghost use Rattle.hd_dbd.specs.Refusals.{OnlyDevice};
 ghost use Rattle.hd_volume.specs.Calls.{IsRead};
 ghost use Rattle.hd_session.specs.Above.{AreKeysOf};
 ghost use Rattle.hd_session.specs.Giving.{IsEmpty};
+ghost use Rattle.hd_session.specs.Onward.{AreReadable};
 ghost use Rattle.hd_session.specs.Replies.{reply_of};
 ghost use Rattle.hd_session.specs.Foretelling.{is_get_call, can_be_foretold, HasOutlook, IsNextForetold};
 
@@ -59,6 +60,7 @@ pub(crate) fn foretell_call<S: BlockStore>(
     pcb: &Pcb,
     outlook: &mut Outlook,
     call: &Call,
+    readable: &mut Option<u8>,
     above: &mut KeysAbove,
     io: &mut IoArea,
 ) -> Result<Answer, Refused>
@@ -66,16 +68,20 @@ pub(crate) fn foretell_call<S: BlockStore>(
     requires size { volume.old.size ≡ dbd.now.block_size }
     requires sizes { volume.old.sizes ≡ stored_sizes dbd.now.types }
     requires there { HasOutlook dbd.now volume.old outlook.old }
+    requires readable { AreReadable dbd.now.types pcb.now readable.old }
     requires known { AreKeysOf dbd.now volume.old above.old }
     requires room { longest_path dbd.now.types ≤ io.old.room }
     ensures foretold { IfOk result (λ a. IsNextForetold dbd.now pcb.now call.now volume.old outlook.old (reply_of a io.new) volume.new outlook.new) }
     ensures there { IfOk result (λ _. HasOutlook dbd.now volume.new outlook.new) }
     ensures read { IsRead volume.old result volume.new }
+    ensures readable { AreReadable dbd.now.types pcb.now readable.new }
     ensures known { IfOk result (λ _. AreKeysOf dbd.now volume.new above.new) }
     ensures refusal { OnlyDevice result }
     ensures empty { IfErr result (λ _. IsEmpty io.new) }
     ensures same_room { io.new.room ≡ io.old.room }
 {
     let positions = &mut outlook.positions;
-    call_step(alloc, volume, dbd, pcb, positions, 1, call, above, io)
+    call_step(
+        alloc, volume, dbd, pcb, positions, 1, call, readable, above, io,
+    )
 }

@@ -21,6 +21,7 @@ use crate::above::KeysAbove;
 use crate::buffer::IoArea;
 use crate::call_and_answer::{Answer, Call};
 use crate::calls::call_step;
+use crate::next_twin::Readable;
 use crate::opening::{OpenFault, start_positions, test_volume};
 use crate::outlook::{Outlook, can_be_foretold, foretell_call};
 use hd_calls::Function;
@@ -41,19 +42,21 @@ pub struct Session<'a, S: BlockStore> {
     psb: &'a Psb,
     positions: Vec<Position>,
     above: KeysAbove,
+    readable: Readable,
     broken: bool,
     alloc: Global,
 }
 
 impl<'a, S: BlockStore> Model for Session<'a, S> {
     ghost use Rattle.hd_session.specs.Above.{AreKeysOf};
+    ghost use Rattle.hd_session.specs.Onward.{IsReadableOf};
     ghost use Rattle.hd_session.specs.Opening.{SessionState, IsSession};
 
     ghost Value = { SessionState };
 
     ghost view = { λ s. record { database = s.dbd.now; pcbs = s.psb.now.pcbs; volume = s.volume; kept = s.positions.items; broken = s.broken } };
 
-    ghost invariant = { λ s. IsSession s.psb.now.made_for (record { database = s.dbd.now; pcbs = s.psb.now.pcbs; volume = s.volume; kept = s.positions.items; broken = s.broken }) × AreKeysOf s.dbd.now s.volume s.above };
+    ghost invariant = { λ s. IsSession s.psb.now.made_for (record { database = s.dbd.now; pcbs = s.psb.now.pcbs; volume = s.volume; kept = s.positions.items; broken = s.broken }) × AreKeysOf s.dbd.now s.volume s.above × IsReadableOf s.dbd.now.types s.psb.now.pcbs s.readable };
 }
 
 impl<'a, S: BlockStore> Session<'a, S> {
@@ -85,6 +88,7 @@ impl<'a, S: BlockStore> Session<'a, S> {
                     psb,
                     positions,
                     above: KeysAbove::new(alloc),
+                    readable: Readable { pcb: 0, code: None },
                     broken: false,
                     alloc,
                 })
@@ -127,6 +131,7 @@ impl<'a, S: BlockStore> Session<'a, S> {
         }
         let number = pcb as usize;
         let pcbs = self.psb.pcbs();
+        let mut readable = self.readable.of(pcb);
         let answered = call_step(
             self.alloc,
             &mut self.volume,
@@ -135,9 +140,14 @@ impl<'a, S: BlockStore> Session<'a, S> {
             &mut self.positions,
             number,
             call,
+            &mut readable,
             &mut self.above,
             io,
         );
+        self.readable = Readable {
+            pcb,
+            code: readable,
+        };
         if let Err(refused) = &answered {
             self.above.forget();
             self.broken = *refused == Refused::Device;
@@ -196,6 +206,7 @@ impl<'a, S: BlockStore> Session<'a, S> {
         }
         let number = pcb as usize;
         let views = self.psb.pcbs();
+        let mut readable = self.readable.of(pcb);
         let told = foretell_call(
             self.alloc,
             &mut self.volume,
@@ -203,9 +214,14 @@ impl<'a, S: BlockStore> Session<'a, S> {
             &views[number - 1],
             outlook,
             call,
+            &mut readable,
             &mut self.above,
             io,
         );
+        self.readable = Readable {
+            pcb,
+            code: readable,
+        };
         if told.is_err() {
             self.above.forget();
             self.broken = true;

@@ -18,16 +18,16 @@ pub get_by_search-requires-in-None-clause-there : goal.get_by_search-requires-in
 get_by_search-requires-in-None-clause-there g c =
     let d = c.args.dbd.now in
     let u = c.args.volume.now in
-    position_kept d u c.get_next_twin.new.volume c.in_ok-outcome.ensures.read c.get_next_twin.new.position
-    (subst (HasPosition d u) (sym (none_told c.in_ok-outcome.field-0 c.in-None.is c.in_ok-outcome.ensures.stays)) c.requires.there)
+    position_kept d u c.get_next_twin.new.volume c.in_ok-status.ensures.read c.get_next_twin.new.position
+    (subst (HasPosition d u) (sym (none_told c.in_ok-status.field-0 c.in-None.is c.in_ok-status.ensures.stays)) c.requires.there)
 
 pub returns-in-None-clause-read : goal.returns-in-None-clause-read
-returns-in-None-clause-read g c = reads-join c.get_by_search-in-None.result c.in_ok-outcome.ensures.read c.get_by_search-in-None.ensures.read
+returns-in-None-clause-read g c = reads-join c.get_by_search-in-None.result c.in_ok-status.ensures.read c.get_by_search-in-None.ensures.read
 
 pub returns-in-None-clause-value : goal.returns-in-None-clause-value
 returns-in-None-clause-value g c = if-ok-map c.get_by_search-in-None.result (λ o got f q at.
     let d = c.args.dbd.now in
     let u = c.args.volume.now in
     let k : Kept = c.get_next_twin.new.position in
-    got f q (position_told d u c.get_next_twin.new.volume c.in_ok-outcome.ensures.read f k q
-    (subst (λ (k : Kept). IsPositionIn d u f k q) (sym (none_told c.in_ok-outcome.field-0 c.in-None.is c.in_ok-outcome.ensures.stays)) at))) c.get_by_search-in-None.ensures.value
+    got f q (position_told d u c.get_next_twin.new.volume c.in_ok-status.ensures.read f k q
+    (subst (λ (k : Kept). IsPositionIn d u f k q) (sym (none_told c.in_ok-status.field-0 c.in-None.is c.in_ok-status.ensures.stays)) at))) c.get_by_search-in-None.ensures.value

@@ -35,6 +35,12 @@ pub answer_tested-requires-clause-resolved : goal.answer_tested-requires-clause-
 answer_tested-requires-clause-resolved g c =
     let s : Setting = record { types = c.args.dbd.now.types; pcb = c.args.pcb.now } in
     let none : length c.call.inside.ssas.items ≡ 0
-    = sym (ap length c.as_slice-texts.ensures.value) ∙ eqb-true (length c.as_slice-texts.result.now) 0 (sym c.is_empty.ensures ∙ c.if-is_empty.true) in
+    = sym (ap length c.as_slice-texts.ensures.value) ∙ eqb-true (length c.as_slice-texts.result.now) 0 (sym c.is_empty.ensures ∙ c.if-not-is_empty.false) in
     ap (resolve s c.in-Some.function) (sym (ap (λ (x : CallText). x.ssas) c.call.view_is) ∙ none_of (λ w. w.items) c.call.inside.ssas.items none)
     ∙ none_mean s c.in-Some.function
+
+pub answer_bare_get-requires-clause-bare : goal.answer_bare_get-requires-clause-bare
+answer_bare_get-requires-clause-bare g c =
+    let none : length c.call.inside.ssas.items ≡ 0
+    = sym (ap length c.as_slice-texts.ensures.value) ∙ eqb-true (length c.as_slice-texts.result.now) 0 (sym c.is_empty.ensures ∙ c.if-not-is_empty.false) in
+    sym (ap (λ (x : CallText). x.ssas) c.call.view_is) ∙ none_of (λ w. w.items) c.call.inside.ssas.items none

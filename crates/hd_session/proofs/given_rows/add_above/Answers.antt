@@ -11,7 +11,7 @@ returns-clause-added c types m known =
     let path : List ℕ = c.args.path.now in
     let levels : List ℕ = c.args.levels.now in
     let room : ℕ = c.args.io.now.room in
-    let level : c.level-level.result ≡ length above.path = c.level-level.ensures in
+    let level : c.level-level.result ≡ length above.path = c.level-level.ensures.value in
     let is : is_begun_by path above ≡ true = sym c.begin.ensures ∙ c.if-not-begin.false in
     let below : are_below levels (length above.path) ≡ true = ap (are_below levels) (sym level) ∙ sym c.are_below.ensures ∙ c.if-not-are_below.false in
     let added : c.push_key.new.self ≡ record { key = above.keys; area = []; room = room }

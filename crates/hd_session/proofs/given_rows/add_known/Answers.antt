@@ -20,7 +20,7 @@ add_path-requires-clause-before g c =
     let d = c.args.dbd.now in
     let volume = c.args.volume.now in
     subst (λ (n : ℕ). HasAdded d volume c.args.path.now c.args.levels.now n c.add_above-known.new.io) c.if-known-last.true
-    (λ sound. c.add_above-known.ensures.added d.types (links_of d.types volume) (c.requires.known sound))
+    (λ sound. c.add_above-known.ensures.added d.types (links_of d.types volume) (c.requires.known sound).0)
 
 pub returns-then-known-last-clause-known : goal.returns-then-known-last-clause-known
 returns-then-known-last-clause-known g c = if_done c.add_path.result c.add_path.ensures.read c.add_path.ensures.added (λ x read added.
@@ -33,7 +33,7 @@ add_path-requires-2-clause-part g c =
     (omega arith, omega arith)
 
 pub add_path-requires-2-clause-before : goal.add_path-requires-2-clause-before
-add_path-requires-2-clause-before g c sound = c.add_above-known.ensures.added c.args.dbd.now.types (links_of c.args.dbd.now.types c.args.volume.now) (c.requires.known sound)
+add_path-requires-2-clause-before g c sound = c.add_above-known.ensures.added c.args.dbd.now.types (links_of c.args.dbd.now.types c.args.volume.now) (c.requires.known sound).0
 
 pub add_path-requires-3-clause-of : goal.add_path-requires-3-clause-of
 add_path-requires-3-clause-of g c = volume-kept c.args.dbd.now c.args.volume.now c.add_path-2.new.volume c.in_ok-add_path.ensures.read c.requires.of

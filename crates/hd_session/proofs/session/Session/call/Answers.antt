@@ -11,6 +11,7 @@ use Rattle.hd_session.specs.declared.call_and_answer.Answer.{Answer}
 use Rattle.hd_session.specs.Opening.{SessionState, StandsForState}
 use Rattle.hd_session.specs.Above.{AreKeysOf}
 use Rattle.hd_session.proofs.KeysKnown.{nothing_known}
+use Rattle.hd_session.proofs.Readables.{found_of, found_anew}
 use Rattle.hd_session.specs.Sessions.{IsMemoryLacking, call_in}
 use Rattle.hd_session.proofs.SessionCalls.{IsStepOf, its_view, kept_is, loader_past, may_lack, call_logged, stands_behind}
 use Rattle.hd_session.proofs.session.Session.call.Goals as goal
@@ -26,6 +27,16 @@ call_step-answered-requires-clause-loader g c loader =
     let is : view_of pcbs n ≡ Some pcb = its_view pcbs n pcb c.requires.pcb.0 within (c.index-pcbs-number.is ∙ ap (λ (ps : List View). slice_index_or ps (n - 1) pcb) c.pcbs-pcbs.ensures.pcbs) in
     subst (λ (ks : List Kept). HasPassedAll d c.self.inside.volume ks n) (sym c.deref_mut.ensures.value)
     (loader_past d c.self.inside.volume pcbs old n pcb is (c.self.invariant.0.stands c.if-self.false) loader)
+
+pub call_step-answered-requires-clause-readable : goal.call_step-answered-requires-clause-readable
+call_step-answered-requires-clause-readable g c =
+    let d = c.self.inside.dbd.now in
+    let pcbs : List View = c.self.inside.psb.now.pcbs in
+    let n : ℕ = c.args.pcb in
+    let pcb : View = c.index-pcbs-number.result in
+    let within : n ≤ length pcbs = subst (λ (s : SessionState). n ≤ length s.pcbs) (sym c.self.view_is) c.requires.pcb.1 in
+    let is : view_of pcbs n ≡ Some pcb = its_view pcbs n pcb c.requires.pcb.0 within (c.index-pcbs-number.is ∙ ap (λ (ps : List View). slice_index_or ps (n - 1) pcb) c.pcbs-pcbs.ensures.pcbs) in
+    found_of d.types pcbs c.self.inside.readable n pcb c.of-readable.result c.self.invariant.2 is c.of-readable.ensures
 
 -- where a refusal is no failed access, the session stands for a state
 pub invariant_of-self : goal.invariant_of-self
@@ -60,6 +71,7 @@ invariant_of-self g c =
             (subst (λ (x : Result Answer Refused). IfErr x (λ y. y ≢ Device)) (sym c.in-Err.is) (λ device. false≢true (sym whole ∙ (c.eq-self-inside.ensures ∙ rw device refl)))) now (kept.stands c.if-self.false));
       },
       nothing_known d w c.forget.new.self c.forget.ensures,
+      found_anew d.types pcbs n pcb c.call_step-answered.new.readable is e.readable,
     )
 
 pub invariant_of-self-in_default : goal.invariant_of-self-in_default
@@ -94,6 +106,7 @@ invariant_of-self-in_default g c =
             (subst (λ (x : Result Answer Refused). IfErr x (λ y. y ≢ Device)) (sym c.in_default.is) tt) now (kept.stands c.if-self.false));
       },
       subst (λ (x : Result Answer Refused). IfOk x (λ _. AreKeysOf d w c.call_step-answered.new.above)) c.in_default.is e.known,
+      found_anew d.types pcbs n pcb c.call_step-answered.new.readable is e.readable,
     )
 
 pub returns-in-Err-clause-logged : goal.returns-in-Err-clause-logged

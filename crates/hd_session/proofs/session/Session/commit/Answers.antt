@@ -1,8 +1,8 @@
-use Rattle.std.proofs.Common.{IsTrue, sym, subst, ◌∙◌}
+use Rattle.std.proofs.Common.{◌≡◌, IsTrue, sym, subst, ◌∙◌}
 use Rattle.hd_links.specs.Links.{Links}
 use Rattle.hd_image.proofs.OneImage.{links-same}
 use Rattle.hd_stores.specs.Stores.{IsCommit}
-use Rattle.hd_session.specs.Above.{AreKeysIn}
+use Rattle.hd_session.specs.Above.{AreKeysIn, IsSeenIn}
 use Rattle.hd_session.specs.Opening.{SessionState}
 use Rattle.hd_session.proofs.Ready.{same_state}
 use Rattle.hd_session.proofs.session.Session.commit.Goals as goal
@@ -27,7 +27,8 @@ invariant_of-self g c =
       },
       λ now.
           let sound : IsTrue c.self.inside.volume.is_sound = rw (← done.sound) now in
-          subst (λ (m : Links). AreKeysIn d.types m c.self.inside.above) (sym (links-same d.types c.self.inside.volume c.commit.new.self (done.committed sound).0 done.size done.sizes)) (c.self.invariant.1 sound),
+          subst (λ (m : Links). AreKeysIn d.types m c.self.inside.above × IsSeenIn d.types m c.self.inside.above) (sym (links-same d.types c.self.inside.volume c.commit.new.self (done.committed sound).0 done.size done.sizes)) (c.self.invariant.1 sound),
+      c.self.invariant.2,
     )
 
 -- what it makes last is the image from before
@@ -35,3 +36,8 @@ pub returns-in-Ok-clause-committed : goal.returns-in-Ok-clause-committed
 returns-in-Ok-clause-committed g c =
     let P : SessionState → Type 0 = λ s. IsCommit s.volume.is_sound s.volume.image c.commit.new.self.image s.volume.committed c.commit.new.self.committed in
     subst P c.self.view_is c.in-Ok.ensures.committed
+
+pub returns-in-Ok-clause-flushed : goal.returns-in-Ok-clause-flushed
+returns-in-Ok-clause-flushed g c =
+    let P : SessionState → Type 0 = λ s. IsTrue s.volume.is_sound → (c.commit.new.self.image ≡ s.volume.image) × (c.commit.new.self.stored ≡ s.volume.image) in
+    subst P c.self.view_is (λ sound. ((c.in-Ok.ensures.committed sound).0, c.in-Ok.ensures.stored sound))

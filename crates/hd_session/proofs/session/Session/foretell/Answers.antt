@@ -8,6 +8,7 @@ use Rattle.hd_volume.proofs.JoinLemmas.{if-ok-map}
 use Rattle.hd_session.specs.Foretelling.{HasOutlook, IsNextForetold}
 use Rattle.hd_session.specs.Opening.{SessionState, StandsForState}
 use Rattle.hd_session.specs.Replies.{reply_of}
+use Rattle.hd_session.proofs.Readables.{found_of, found_anew}
 use Rattle.hd_session.proofs.SessionCalls.{its_view}
 use Rattle.hd_session.proofs.Turns.{represents_same}
 use Rattle.hd_session.proofs.session.Session.foretell.Goals as goal
@@ -29,6 +30,16 @@ foretell_call-told-requires-clause-can g c =
     let is : view_of pcbs n ≡ Some pcb = its_view pcbs n pcb c.requires.pcb.0 within (c.index-views-number.is ∙ ap (λ (ps : List View). slice_index_or ps (n - 1) pcb) c.pcbs-views.ensures.pcbs) in
     c.requires.can pcb (subst (λ (s : SessionState). view_of s.pcbs n ≡ Some pcb) c.self.view_is is)
 
+pub foretell_call-told-requires-clause-readable : goal.foretell_call-told-requires-clause-readable
+foretell_call-told-requires-clause-readable g c =
+    let d = c.self.inside.dbd.now in
+    let pcbs : List View = c.self.inside.psb.now.pcbs in
+    let n : ℕ = c.args.pcb in
+    let pcb : View = c.index-views-number.result in
+    let within : n ≤ length pcbs = subst (λ (s : SessionState). n ≤ length s.pcbs) (sym c.self.view_is) c.requires.pcb.1 in
+    let is : view_of pcbs n ≡ Some pcb = its_view pcbs n pcb c.requires.pcb.0 within (c.index-views-number.is ∙ ap (λ (ps : List View). slice_index_or ps (n - 1) pcb) c.pcbs-views.ensures.pcbs) in
+    found_of d.types pcbs c.self.inside.readable n pcb c.of-readable.result c.self.invariant.2 is c.of-readable.ensures
+
 pub foretell_call-told-requires-clause-there : goal.foretell_call-told-requires-clause-there
 foretell_call-told-requires-clause-there g c =
     subst (λ (s : SessionState). s.broken ≡ false → HasOutlook s.database s.volume c.args.outlook.now) (sym c.self.view_is) c.requires.there c.if-self.false
@@ -36,6 +47,11 @@ foretell_call-told-requires-clause-there g c =
 pub invariant_of-self-else-is_err : goal.invariant_of-self-else-is_err
 invariant_of-self-else-is_err g c =
     let d = c.self.inside.dbd.now in
+    let pcbs : List View = c.self.inside.psb.now.pcbs in
+    let n : ℕ = c.args.pcb in
+    let pcb : View = c.index-views-number.result in
+    let within : n ≤ length pcbs = subst (λ (s : SessionState). n ≤ length s.pcbs) (sym c.self.view_is) c.requires.pcb.1 in
+    let is : view_of pcbs n ≡ Some pcb = its_view pcbs n pcb c.requires.pcb.0 within (c.index-views-number.is ∙ ap (λ (ps : List View). slice_index_or ps (n - 1) pcb) c.pcbs-views.ensures.pcbs) in
     let v = c.self.inside.volume in
     let w = c.foretell_call-told.new.volume in
     let e = c.foretell_call-told.ensures in
@@ -57,6 +73,7 @@ invariant_of-self-else-is_err g c =
             });
       },
       ok_fact c.foretell_call-told.result (sym c.is_err.ensures.value ∙ c.if-is_err.false) e.known,
+      found_anew d.types pcbs n pcb c.foretell_call-told.new.readable is e.readable,
     )
 
 pub returns-else-is_err-clause-foretold : goal.returns-else-is_err-clause-foretold

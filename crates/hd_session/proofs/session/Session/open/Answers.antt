@@ -34,6 +34,7 @@ invariant_of-result g c =
             (subst (λ (ps : List View). IsReadyFor d ps c.args.volume) c.pcbs-pcbs.ensures.pcbs (c.in_default.ensures.ready sound)) start;
       },
       nothing_known d w c.new.result c.new.ensures,
+      λ pcb is. tt,
     )
 
 pub returns-in-Ok-clause-read : goal.returns-in-Ok-clause-read
