@@ -1,6 +1,5 @@
 -- Holes are no longer than blocks.
 use Rattle.std.proofs.Common.{◌≡◌, ℕ, ◌≤◌, length, arith}
-use Rattle.std.specs.Prelude.{slice_index}
 use Rattle.hd_bytes.proofs.BlockLemmas.{length-block}
 use Rattle.hd_block.specs.Parts.{parts_of}
 use Rattle.hd_block.specs.Walk.{parts_in}

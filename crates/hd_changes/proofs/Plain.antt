@@ -1,5 +1,5 @@
 -- A volume that keeps nothing free any more.
-use Rattle.std.proofs.Common.{◌≡◌, ◌≤◌, List, ℕ, Ok, refl, sym, ap, subst, arith}
+use Rattle.std.proofs.Common.{◌≡◌, List, ℕ, Ok, refl, sym, ap, subst, arith}
 use Rattle.hd_volume.specs.Volumes.{VolumeState}
 use Rattle.hd_volume.specs.Spacing.{no_spacing}
 use Rattle.hd_volume.specs.Images.{KeepsFirst}

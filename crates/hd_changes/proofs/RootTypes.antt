@@ -1,5 +1,5 @@
 -- The root's type: its rows stand at level 1, and their keys are those of the index.
-use Rattle.std.proofs.Common.{◌≡◌, ℕ, ◌+◌, ◌-◌, ◌<◌, ◌≤◌, List, [], length, drop, true, IsTrue, Option, Some, None, refl, sym, ap, ◌∙◌, arith}
+use Rattle.std.proofs.Common.{◌≡◌, ℕ, ◌+◌, ◌-◌, ◌≤◌, List, [], length, drop, true, IsTrue, Option, Some, None, refl, sym, ap, ◌∙◌, arith}
 use Rattle.std.specs.Prelude.{option_and_then}
 use Rattle.std.specs.Option.{option_map_or}
 use Rattle.std.proofs.lemmas.List.{length-take-le, length-drop}
@@ -8,11 +8,10 @@ use Rattle.hd_dbd.specs.declared.hierarchy.Key.{Key}
 use Rattle.hd_dbd.specs.Types.{SegmentType}
 use Rattle.hd_dbd.specs.Hierarchy.{type_of, parent_of, part_of, key_in}
 use Rattle.hd_dbd.specs.DatabaseRules.{well_formed}
-use Rattle.hd_dbd.specs.Rows.{row_fits, level, key_of}
+use Rattle.hd_dbd.specs.Rows.{row_fits, level}
 use Rattle.hd_dbd.proofs.Fitting.{IsEarlier}
 use Rattle.hd_dbd.proofs.TypeLengths.{row-type, length-least, type-lengths}
 use Rattle.hd_dbd.proofs.LevelLaw.{leveled, parents_earlier, depth_below}
-use Rattle.hd_volume.specs.Indexes.{root_key_length}
 use Rattle.hd_changes.specs.Found.{RootKeysAreWhole}
 
 -- it has no parent

@@ -1,5 +1,5 @@
 -- Rows that a PCB holds stand on its path, each another than those before it.
-use Rattle.std.proofs.Common.{◌≡◌, ℕ, zero, suc, ◌+◌, ◌<◌, ◌≤◌, List, [], ◌∷◌, ◌++◌, take, drop, Bool, true, false, cond, not, ◌||◌, refl, ap, sym, ◌∙◌, subst, arith, Some, None, inl, inr, ne_eqb}
+use Rattle.std.proofs.Common.{◌≡◌, ℕ, zero, suc, ◌<◌, ◌≤◌, List, [], ◌∷◌, ◌++◌, take, drop, Bool, true, false, cond, not, ◌||◌, refl, ap, sym, ◌∙◌, subst, arith, Some, None, inl, inr, ne_eqb}
 use Rattle.std.specs.Prelude.{slice_get, ◌==◌, is_some}
 use Rattle.std.specs.List.{list_any}
 use Rattle.std.proofs.lemmas.Bool.{cases_Bool, cases_lt, cond-true, cond-false, lt-ltb, le-ltb, or_left, eq-eqb, false≢true}

@@ -1,8 +1,8 @@
 -- Rows that get new bytes, one after the other.
-use Rattle.std.proofs.Common.{◌≡◌, ◌≢◌, ◌⊎◌, ℕ, zero, suc, ◌+◌, ◌-◌, ◌<◌, ◌≤◌, List, [], ◌∷◌, ◌++◌, length, take, drop, Bool, true, false, cond, refl, ap, ap₂, sym, ◌∙◌, subst, arith, inl, inr}
+use Rattle.std.proofs.Common.{◌≡◌, ◌≢◌, ◌⊎◌, ℕ, zero, suc, ◌+◌, ◌<◌, ◌≤◌, List, [], ◌∷◌, ◌++◌, length, take, drop, Bool, true, false, cond, refl, ap, ap₂, sym, ◌∙◌, subst, arith, inl, inr}
 use Rattle.std.specs.Prelude.{map, slice_index_or, slice_set, ◌&&◌, ◌||◌, ◌==◌}
 use Rattle.std.specs.List.{list_all, list_any}
-use Rattle.std.proofs.lemmas.Bool.{cases_eq, and_parts, or_parts, le-ltb}
+use Rattle.std.proofs.lemmas.Bool.{cases_eq, and_parts, or_parts}
 use Rattle.std.proofs.lemmas.List.{get_or-set_same, get_or-set_other}
 use Rattle.std.proofs.lemmas.Slice.Eq.{bytes_eq-Decides}
 use Rattle.hd_dbd.specs.Types.{SegmentType}
@@ -19,7 +19,7 @@ use Rattle.hd_calls.specs.Moves.{Rewrite, rewritten, is_rewritten, position_afte
 use Rattle.hd_calls.specs.Runs.{is_longer, lengthens, row_with, rows_stored}
 use Rattle.hd_calls.specs.Steps.{keeps_key}
 use Rattle.hd_volume.specs.Volumes.{VolumeState}
-use Rattle.hd_links.specs.Links.{Links, IsSegment, IsLinkGraph, segment_at}
+use Rattle.hd_links.specs.Links.{Links, IsSegment, segment_at}
 use Rattle.hd_links.specs.Placed.{Placed}
 use Rattle.hd_links.specs.Changes.{with_bytes, CanReplace}
 use Rattle.hd_links.specs.Moves.{moved_to, with_address}
@@ -29,7 +29,6 @@ use Rattle.hd_links.proofs.Numbers.{rows_addressed}
 use Rattle.hd_links.proofs.RowChanges.{bytes_in}
 use Rattle.hd_image.specs.Records.{links_of}
 use Rattle.hd_image.specs.Holding.{HoldsPlaced}
-use Rattle.hd_image.proofs.Found.{records-link}
 use Rattle.hd_volume.specs.Rooms.{spare, HasHole}
 use Rattle.hd_forest.specs.Walks.{tip}
 use Rattle.hd_forest.specs.Replacing.{Outgrows}
@@ -47,7 +46,7 @@ use Rattle.hd_update.specs.Replacing.{part_for, IsInArea, AreInArea, IsRewriteOf
 use Rattle.hd_update.specs.declared.replaced.ReplacedRow.{ReplacedRow}
 use Rattle.hd_update.specs.declared.rewrites.NewBytes.{NewBytes}
 use Rattle.hd_update.proofs.AskedPaths.{IsAtTurn, at_turn}
-use Rattle.hd_update.proofs.RewriteRooms.{stored_same, replace_refused, room_left, memory_left}
+use Rattle.hd_update.proofs.RewriteRooms.{replace_refused, room_left, memory_left}
 use Rattle.hd_update.proofs.CutPaths.{leads_to_row}
 
 -- ---- one of them

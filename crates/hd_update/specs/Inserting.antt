@@ -17,7 +17,7 @@ use Rattle.hd_calls.specs.Access.{loads}
 use Rattle.hd_calls.specs.Ssas.{Ssa, resolve, target_code}
 use Rattle.hd_calls.specs.Moves.{put_in}
 use Rattle.hd_calls.specs.Places.{insert_parent, is_key_taken, insertion_point}
-use Rattle.hd_calls.specs.Steps.{State, Effect, answered, wrong_area, position_at, bare_answer, insert_at, insert_step}
+use Rattle.hd_calls.specs.Steps.{State, Effect, wrong_area, position_at, bare_answer, insert_at, insert_step}
 use Rattle.hd_volume.specs.Volumes.{VolumeState}
 use Rattle.hd_links.specs.Links.{is_child_type}
 use Rattle.hd_links.specs.Placed.{Placed}

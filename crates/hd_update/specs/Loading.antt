@@ -16,7 +16,7 @@ use Rattle.hd_dbd.specs.Loads.{lacks_parent, order_fault, load_fault}
 use Rattle.hd_calls.specs.Ssas.{Ssa}
 use Rattle.hd_calls.specs.Access.{loads}
 use Rattle.hd_calls.specs.Runs.{has_root, LacksRoom}
-use Rattle.hd_calls.specs.Steps.{State, Effect, position_at, inserted_codes, insert_step, load_step}
+use Rattle.hd_calls.specs.Steps.{State, position_at, inserted_codes, load_step}
 use Rattle.hd_volume.specs.Volumes.{VolumeState}
 use Rattle.hd_links.specs.Placed.{Placed}
 use Rattle.hd_links.specs.LastRows.{last_on, segments_of, parent_on_path, twin_on_path}

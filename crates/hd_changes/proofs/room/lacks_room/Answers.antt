@@ -1,5 +1,5 @@
 -- A path that begins with a root needs no more than a block for each row and the growth of the index.
-use Rattle.std.proofs.Common.{◌≡◌, ◌⊎◌, ◌+◌, ◌≤◌, ℕ, IsTrue, Bool, true, false, not, refl, sym, ◌∙◌, arith, inl, inr}
+use Rattle.std.proofs.Common.{◌≡◌, ◌⊎◌, ◌+◌, ◌≤◌, ℕ, IsTrue, Bool, true, false, not, refl, arith, inl, inr}
 use Rattle.hd_volume.specs.Indexes.{root_key_length}
 use Rattle.hd_volume.specs.Rooms.{spare}
 use Rattle.hd_volume.specs.Spacing.{IsPlain}

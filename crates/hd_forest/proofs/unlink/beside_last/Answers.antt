@@ -1,7 +1,7 @@
-use Rattle.std.proofs.Common.{◌≡◌, ◌-◌, ◌<◌, length, take, sym, ap, subst, ◌∙◌, inl, inr}
+use Rattle.std.proofs.Common.{◌≡◌, ◌-◌, length, take, sym, subst, ◌∙◌}
 use Rattle.hd_links.specs.Links.{Links, IsSegment}
 use Rattle.hd_image.specs.Records.{links_of}
-use Rattle.hd_forest.specs.Walks.{tip, parent_on}
+use Rattle.hd_forest.specs.Walks.{parent_on}
 use Rattle.hd_forest.proofs.Climbs.{a-path, take-segments}
 use Rattle.hd_forest.proofs.unlink.beside_last.Goals as goal
 

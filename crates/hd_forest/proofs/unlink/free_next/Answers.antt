@@ -1,6 +1,6 @@
-use Rattle.std.proofs.Common.{◌≡◌, ◌≢◌, ◌<◌, ℕ, List, [], ◌∷◌, ◌++◌, length, Bool, true, false, not, ◌&&◌, refl, sym, ap, ap₂, subst, ◌∙◌, eq-eqb, ne_eqb, arith, inl, inr}
+use Rattle.std.proofs.Common.{◌≡◌, ◌≢◌, ◌<◌, ℕ, List, [], ◌∷◌, ◌++◌, Bool, true, false, not, ◌&&◌, refl, sym, ap, ap₂, subst, ◌∙◌, eq-eqb, ne_eqb, arith, inl, inr}
 use Rattle.std.specs.Prelude.{◌==◌, ◌⊎◌}
-use Rattle.std.proofs.lemmas.Bool.{cond-false, and_parts, cases_lt}
+use Rattle.std.proofs.lemmas.Bool.{cond-false, cases_lt}
 use Rattle.hd_volume.proofs.CallSteps.{if-ok}
 use Rattle.hd_links.specs.Links.{Links, IsSegment}
 use Rattle.hd_image.specs.Records.{links_of}

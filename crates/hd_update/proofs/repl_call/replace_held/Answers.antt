@@ -1,7 +1,5 @@
-use Rattle.std.proofs.Common.{◌≡◌, ℕ, ◌-◌, List, length, false, true, Ok, Err, IsTrue, IfErr, Result, sym, ap, subst, ◌∙◌, inl, inr, arith}
+use Rattle.std.proofs.Common.{◌≡◌, ℕ, List, false, Ok, Err, IsTrue, IfErr, Result, sym, ap, subst, ◌∙◌}
 use Rattle.std.proofs.lemmas.Result.{err_from_is_err_and}
-use Rattle.std.proofs.lemmas.Bool.{cases_Bool}
-use Rattle.hd_dbd.specs.Segment.{Segment}
 use Rattle.hd_dbd.specs.declared.answer.Refused.{Refused}
 use Rattle.hd_dbd.specs.declared.answer.Refused.TheVariants.{Memory}
 use Rattle.hd_volume.proofs.CallSteps.{call-ok, sound-back}
@@ -13,7 +11,6 @@ use Rattle.hd_changes.specs.VolumeImages.{images_of}
 use Rattle.hd_position.specs.Kept.{Kept}
 use Rattle.hd_calls.specs.Moves.{rewritten}
 use Rattle.hd_calls.specs.Runs.{LacksRoom, rows_stored}
-use Rattle.hd_calls.specs.Steps.{replace_rows}
 use Rattle.hd_get.specs.declared.outcome.Outcome.{Outcome}
 use Rattle.hd_get.specs.declared.outcome.Outcome.TheVariants.{Found, Missing}
 use Rattle.hd_dbd.specs.declared.answer.Status.TheVariants.{Blank, DA}
