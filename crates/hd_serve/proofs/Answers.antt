@@ -1,6 +1,6 @@
 -- The bytes of an answer's frame, part by part.
 use Rattle.std.proofs.Common.{◌≡◌, ℕ, ◌+◌, List, [], ◌∷◌, ◌++◌, length, refl, sym, ap, ◌∙◌, arith, append_assoc, length-append}
-use Rattle.std.specs.Prelude.{replicate, unwrap_or}
+use Rattle.std.specs.Prelude.{flat_map, replicate, unwrap_or}
 use Rattle.std.specs.Int.{w16, w32, to_be_bytes}
 use Rattle.hd_dbd.specs.declared.answer.Status.{Status}
 use Rattle.hd_dbd.specs.declared.answer.Status.TheVariants.{Blank, GA, GK, GB, GE, GP, II, V1, DA, DJ, LB, LC, LD, LE, AC, AD, AH, AJ, AK, AM}
@@ -36,9 +36,20 @@ parts : (head status name digits key area : List ℕ) (level : ℕ)
     → ((((((head ++ 0 ∷ []) ++ status) ++ level ∷ []) ++ name) ++ digits) ++ key) ++ area ≡ head ++ (0 ∷ (status ++ level ∷ (name ++ (digits ++ (key ++ area)))))
 parts head status name digits key area level = simp append_assoc
 
-long : (status name digits key area : List ℕ) (level : ℕ) → length status ≡ 2 → length name ≡ 8 → length digits ≡ 2
-    → length (0 ∷ (status ++ level ∷ (name ++ (digits ++ (key ++ area))))) ≡ 14 + length key + length area
-long status name digits key area level s n d = simp length-append (omega arith)
+-- so many bytes has an answer
+pub answer-long : (r : Reply) → length (answer_bytes r) ≡ 6 + length (unwrap_or r.segment (replicate 8 32)) + (length r.key + length r.area)
+answer-long r =
+    let name : List ℕ = unwrap_or r.segment (replicate 8 32) in
+    let rest : List ℕ = to_be_bytes w16 (length r.key) ++ (r.key ++ r.area) in
+    omega (arith, length-append (status_text r.status) (r.level ∷ (name ++ rest)), two-letters r.status, length-append name rest, length-append r.key r.area)
+
+-- and so many its frame
+pub frame-long : (r : Reply) → length (frame_bytes (answer_bytes r)) ≡ 10 + length (unwrap_or r.segment (replicate 8 32)) + (length r.key + length r.area)
+frame-long r = omega (arith, answer-long r)
+
+-- the frames of answers, one behind the other
+abbrev pub frames : List Reply → List ℕ
+frames replies = flat_map (λ r. frame_bytes (answer_bytes r)) replies
 
 -- the parts of an answer, one behind the other, are its frame, behind what stands before
 pub answer-pushed : (old : List ℕ) (r : Reply) (size : ℕ) (name : List ℕ) → name ≡ unwrap_or r.segment (replicate 8 32) → length name ≡ 8 → size ≡ 14 + length r.key + length r.area
@@ -53,6 +64,5 @@ answer-pushed old r size name is eight sum =
     spelled : (r : Reply) (size : ℕ) (name : List ℕ) → name ≡ unwrap_or r.segment (replicate 8 32) → length name ≡ 8 → size ≡ 14 + length r.key + length r.area
         → to_be_bytes w32 size ++ (0 ∷ (status_text r.status ++ r.level ∷ (name ++ (to_be_bytes w16 (length r.key) ++ (r.key ++ r.area))))) ≡ frame_bytes (answer_bytes r)
     spelled r size name is eight sum =
-        ap (λ (n : ℕ). to_be_bytes w32 n ++ (0 ∷ (status_text r.status ++ r.level ∷ (name ++ (to_be_bytes w16 (length r.key) ++ (r.key ++ r.area))))))
-        (sum ∙ sym (long (status_text r.status) name (to_be_bytes w16 (length r.key)) r.key r.area r.level (two-letters r.status) eight refl))
-        ∙ ap (λ (xs : List ℕ). frame_bytes (0 ∷ (status_text r.status ++ r.level ∷ (xs ++ (to_be_bytes w16 (length r.key) ++ (r.key ++ r.area)))))) is
+        ap (λ (xs : List ℕ). to_be_bytes w32 size ++ (0 ∷ (status_text r.status ++ r.level ∷ (xs ++ (to_be_bytes w16 (length r.key) ++ (r.key ++ r.area)))))) is
+        ∙ ap (λ (n : ℕ). to_be_bytes w32 n ++ answer_bytes r) (let e : size ≡ length (answer_bytes r) = omega (arith, sum, answer-long r, ap (λ (xs : List ℕ). length xs) is, eight) in e)

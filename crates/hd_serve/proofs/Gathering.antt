@@ -25,10 +25,7 @@ use Rattle.hd_session.specs.Foretelling.{can_be_foretold, and_then, answers_from
 use Rattle.hd_serve.specs.Frames.{frame_bytes}
 use Rattle.hd_serve.specs.Answers.{answer_bytes, in_room, TOLD_ROOM}
 use Rattle.hd_serve.specs.Serves.{GathersTold}
-use Rattle.hd_serve.proofs.Answers.{two-letters}
-
-abbrev pub frames : List Reply → List ℕ
-frames replies = flat_map (λ r. frame_bytes (answer_bytes r)) replies
+use Rattle.hd_serve.proofs.Answers.{frames}
 
 -- Of what a call is foretold to answer in a session, so often at most, some was gathered behind a head, and so often more it may be asked: from here on the rest is
 -- what is lacking.
@@ -213,19 +210,6 @@ next_of_first s m pcb number call outlook reply w new seen only next =
     let database : m.database ≡ s.database = ap (λ (z : SessionState). z.database) only.same in
     let pcbs : m.pcbs ≡ s.pcbs = ap (λ (z : SessionState). z.pcbs) only.same in
     subst (λ (d : Database). IsNextForetold d pcb call m.volume outlook reply w new) database (next pcb (ap (λ (ps : List View). view_of ps number) pcbs ∙ seen))
-
--- the bytes of an answer's frame
-pub frame_long : (r : Reply) → length (frame_bytes (answer_bytes r)) ≡ 10 + length (unwrap_or r.segment (replicate 8 32)) + (length r.key + length r.area)
-frame_long r =
-    let name : List ℕ = unwrap_or r.segment (replicate 8 32) in
-    let digits : List ℕ = to_be_bytes w16 (length r.key) in
-    omega (
-      arith,
-      length-append (status_text r.status) (r.level ∷ (name ++ (digits ++ (r.key ++ r.area)))),
-      two-letters r.status,
-      length-append name (digits ++ (r.key ++ r.area)),
-      length-append r.key r.area,
-    )
 
 -- nothing is gathered of a call that can't be foretold
 pub gathered_nothing : (s : SessionState) (turn : Turn) (n : ℕ) (head : List ℕ) (pcb : View) → view_of s.pcbs turn.pcb ≡ Some pcb → can_be_foretold pcb turn.call ≡ false → IsOnlyRead s s

@@ -1,41 +1,22 @@
 -- What the bytes of foretold answers say.
-use Rattle.std.proofs.Common.{◌≡◌, ◌≢◌, ℕ, ◌+◌, ◌<◌, ◌^◌, List, [], ◌∷◌, ◌++◌, length, take, drop, refl, sym, ap, ap₂, ◌∙◌, arith, length-append}
-use Rattle.std.specs.Prelude.{flat_map, unwrap_or, replicate}
+use Rattle.std.proofs.Common.{◌≡◌, ◌≢◌, ℕ, ◌+◌, ◌<◌, ◌^◌, List, [], ◌∷◌, ◌++◌, length, take, drop, refl, sym, ap, ap₂, ◌∙◌, arith}
 use Rattle.std.specs.List.{AllByRecursion}
-use Rattle.std.specs.Int.{w16, w32, to_be_bytes, from_be_bytes}
+use Rattle.std.specs.Int.{w32, from_be_bytes}
 use Rattle.std.proofs.lemmas.List.{take_at, drop_at}
 use Rattle.std.proofs.lemmas.List.Elements.{recursion_from_All}
 use Rattle.std.proofs.lemmas.Nat.{from_be_bytes-to_be_bytes_4}
 use Rattle.hd_dbd.specs.declared.answer.Refused.{Refused}
 use Rattle.hd_dbd.specs.declared.answer.Refused.TheVariants as refused
 use Rattle.hd_dbd.specs.Calls.{Reply}
-use Rattle.hd_dbd.specs.Statuses.{status_text}
 use Rattle.hd_serve.specs.Frames.{frame_bytes}
 use Rattle.hd_serve.specs.Answers.{answer_bytes, refusal_bytes, told_bytes}
 use Rattle.hd_serve.specs.Laws.{CanBeTold, ToldAnswersAreToldApart, ForetoldIsToldApart}
-use Rattle.hd_serve.proofs.Answers.{two-letters}
+use Rattle.hd_serve.proofs.Answers.{answer-long, frames}
 use Rattle.hd_serve.proofs.AnswersApart.{answers-apart, segment-long}
-
--- so many bytes has an answer that can be told
-answer-long : (r : Reply) → CanBeTold r → length (answer_bytes r) ≡ 14 + (length r.key + length r.area)
-answer-long r can =
-    let name : List ℕ = unwrap_or r.segment (replicate 8 32) in
-    let eight : length name ≡ 8 = segment-long r.segment can.named in
-    omega (
-      arith,
-      length-append (status_text r.status) (r.level ∷ (name ++ (to_be_bytes w16 (length r.key) ++ (r.key ++ r.area)))),
-      two-letters r.status,
-      length-append name (to_be_bytes w16 (length r.key) ++ (r.key ++ r.area)),
-      eight,
-      length-append r.key r.area,
-    )
 
 -- the number in front of its frame
 size-told : (r : Reply) (rest : List ℕ) → CanBeTold r → length r.area < 2 ^ 31 → from_be_bytes w32 (frame_bytes (answer_bytes r) ++ rest) ≡ length (answer_bytes r)
-size-told r rest can few = from_be_bytes-to_be_bytes_4 (length (answer_bytes r)) (omega (arith, answer-long r can, can.short, few))
-
-abbrev frames : List Reply → List ℕ
-frames replies = flat_map (λ r. frame_bytes (answer_bytes r)) replies
+size-told r rest can few = from_be_bytes-to_be_bytes_4 (length (answer_bytes r)) (omega (arith, answer-long r, segment-long r.segment can.named, can.short, few))
 
 told-apart : (rs ss : List Reply) → AllByRecursion CanBeTold rs → AllByRecursion CanBeTold ss → AllByRecursion (λ r. length r.area < 2 ^ 31) rs → AllByRecursion (λ r. length r.area < 2 ^ 31) ss
     → frames rs ≡ frames ss → rs ≡ ss

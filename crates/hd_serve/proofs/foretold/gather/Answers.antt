@@ -13,7 +13,8 @@ use Rattle.hd_serve.specs.Answers.{answer_bytes, TOLD_ROOM}
 use Rattle.hd_serve.specs.Serves.{GathersTold}
 use Rattle.hd_serve.proofs.Closing.{on_ok}
 use Rattle.hd_serve.proofs.OneRequest.{does_foretell}
-use Rattle.hd_serve.proofs.Gathering.{Gathers, only_none, only_more, view_there, next_of_first, frame_long, gathers_none, gathered_nothing, gathered_all, gathered_full, gathered_last, gathers_more}
+use Rattle.hd_serve.proofs.Answers.{frame-long}
+use Rattle.hd_serve.proofs.Gathering.{Gathers, only_none, only_more, view_there, next_of_first, gathers_none, gathered_nothing, gathered_all, gathered_full, gathered_last, gathers_more}
 use Rattle.hd_serve.proofs.foretold.gather.Goals as goal
 
 pub returns-then-not-can_foretell-clause-gathers : goal.returns-then-not-can_foretell-clause-gathers
@@ -70,7 +71,7 @@ returns-then-not-has_room-clause-gathers g c =
     let name : length c.segment_text.result.now ≡ length (unwrap_or c.in-Ok.answer.segment (replicate 8 32)) = ap length c.segment_text.ensures.text in
     let more : ℕ = 10 + length c.segment_text.result.now + (length c.foretell.new.io.key + length c.foretell.new.io.area) in
     let size : length (frame_bytes (answer_bytes reply)) ≡ more =
-    frame_long reply ∙ ap (λ (k : ℕ). 10 + k + (length c.foretell.new.io.key + length c.foretell.new.io.area)) (sym name) in
+    frame-long reply ∙ ap (λ (k : ℕ). 10 + k + (length c.foretell.new.io.key + length c.foretell.new.io.area)) (sym name) in
     let at : length c.deref.result.now ≡ length line = ap length c.deref.ensures.value in
     let key : length c.key.result.now ≡ length c.foretell.new.io.key = ap length c.key.ensures in
     let area : length c.area.result.now ≡ length c.foretell.new.io.area = ap length c.area.ensures in
@@ -101,7 +102,7 @@ returns-then-is_none-clause-gathers g c =
     let name : length c.segment_text.result.now ≡ length (unwrap_or c.in-Ok.answer.segment (replicate 8 32)) = ap length c.segment_text.ensures.text in
     let more : ℕ = 10 + length c.segment_text.result.now + (length c.foretell.new.io.key + length c.foretell.new.io.area) in
     let size : length (frame_bytes (answer_bytes reply)) ≡ more =
-    frame_long reply ∙ ap (λ (k : ℕ). 10 + k + (length c.foretell.new.io.key + length c.foretell.new.io.area)) (sym name) in
+    frame-long reply ∙ ap (λ (k : ℕ). 10 + k + (length c.foretell.new.io.key + length c.foretell.new.io.area)) (sym name) in
     let at : length c.deref.result.now ≡ length line = ap length c.deref.ensures.value in
     let key : length c.key.result.now ≡ length c.foretell.new.io.key = ap length c.key.ensures in
     let area : length c.area.result.now ≡ length c.foretell.new.io.area = ap length c.area.ensures in
@@ -135,7 +136,7 @@ answers-preserved g c =
     let name : length c.segment_text.result.now ≡ length (unwrap_or c.in-Ok.answer.segment (replicate 8 32)) = ap length c.segment_text.ensures.text in
     let more : ℕ = 10 + length c.segment_text.result.now + (length c.foretell.new.io.key + length c.foretell.new.io.area) in
     let size : length (frame_bytes (answer_bytes reply)) ≡ more =
-    frame_long reply ∙ ap (λ (k : ℕ). 10 + k + (length c.foretell.new.io.key + length c.foretell.new.io.area)) (sym name) in
+    frame-long reply ∙ ap (λ (k : ℕ). 10 + k + (length c.foretell.new.io.key + length c.foretell.new.io.area)) (sym name) in
     let at : length c.deref.result.now ≡ length line = ap length c.deref.ensures.value in
     let key : length c.key.result.now ≡ length c.foretell.new.io.key = ap length c.key.ensures in
     let area : length c.area.result.now ≡ length c.foretell.new.io.area = ap length c.area.ensures in
