@@ -81,5 +81,5 @@ fn put_twins<W: Write>(survey: &Survey, dbd: &Dbd, code: u8, ink: &mut Ink<'_, W
         ink.put(above);
         ink.fill(b" at $", &[u64::from(own.longest_parent)]);
     }
-    ink.put(b"; a search passes over half of them\n");
+    ink.put(b"; a search may pass over half of them\n");
 }
