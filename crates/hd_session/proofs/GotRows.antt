@@ -117,9 +117,6 @@ missed_reply c d f q status own undone = by (sought_by c d.types (rows_of f) q) 
     by (Some i) e = absurd (true_false (sym (found_done c d f q i e) ∙ ap is_done own ∙ undone))
 
 -- what is given of a path is given of an equal one
-pub given_path : {reply : Reply} (d : Database) (v : VolumeState) (p p2 levels : List ℕ) (status : Status) → p ≡ p2 → IsGiven d v p levels status reply → IsGiven d v p2 levels status reply
-given_path {reply} d v p p2 levels status same given = subst (λ (x : List ℕ). IsGiven d v x levels status reply) same given
-
 pub given_same : {reply : Reply} (d : Database) (v : VolumeState) (p p2 ls ls2 : List ℕ) (status : Status) → p ≡ p2 → ls ≡ ls2 → IsGiven d v p ls status reply → IsGiven d v p2 ls2 status reply
 given_same {reply} d v p p2 ls ls2 status same levels given =
     subst (λ (x : List ℕ). IsGiven d v p2 x status reply) levels (subst (λ (x : List ℕ). IsGiven d v x ls status reply) same given)

@@ -13,7 +13,8 @@ found_of types pcbs noted n pcb None known view is = tt
 found_of types pcbs noted n pcb (Some code) known view is =
     subst (AreReadable types pcb) is.1 (known pcb (subst (λ (k : ℕ). view_of pcbs k ≡ Some pcb) (sym is.0) view))
 
-same_view : (x y : View) → Some x ≡ Some y → x ≡ y
+-- a PCB that is told twice is the same
+pub same_view : (x y : View) → Some x ≡ Some y → x ≡ y
 same_view x y e = cc
 
 -- and what is found of it anew is noted

@@ -8,7 +8,7 @@ use Rattle.hd_volume.proofs.JoinLemmas.{if-ok-map}
 use Rattle.hd_session.specs.Foretelling.{HasOutlook, IsNextForetold}
 use Rattle.hd_session.specs.Opening.{SessionState, StandsForState}
 use Rattle.hd_session.specs.Replies.{reply_of}
-use Rattle.hd_session.proofs.Readables.{found_of, found_anew}
+use Rattle.hd_session.proofs.Readables.{found_of, found_anew, same_view}
 use Rattle.hd_session.proofs.SessionCalls.{its_view}
 use Rattle.hd_session.proofs.Turns.{represents_same}
 use Rattle.hd_session.proofs.session.Session.foretell.Goals as goal
@@ -17,9 +17,6 @@ use Rattle.hd_session.proofs.session.Session.foretell.Goals as goal
 ok_fact : {T E P : Type 0} (r : Result T E) → is_err r ≡ false → IfOk r (λ _. P) → P
 ok_fact (Ok x) is p = p
 ok_fact (Err e) is p = cc
-
-same_view : (x y : View) → Some x ≡ Some y → x ≡ y
-same_view x y e = cc
 
 pub foretell_call-told-requires-clause-can : goal.foretell_call-told-requires-clause-can
 foretell_call-told-requires-clause-can g c =
