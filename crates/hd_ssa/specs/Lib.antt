@@ -1,4 +1,5 @@
 pub mod Texts
+pub mod Comparisons
 pub mod LeastKeys
 pub mod EqualKeys
 pub mod Questions

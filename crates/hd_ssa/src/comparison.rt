@@ -14,10 +14,10 @@ use hd_dbd::{Field, Key, Name8, SegType, Status, compare_keys};
 use std::cmp::Ordering;
 use std::marker::Model;
 
-/// A field, an operator, and the value with which it is compared.
+/// A field, an operator, and the value with which it is compared. The field lies in the type, and the value in the call's text.
 #[derive(Drop)]
 pub struct Comparison<'a> {
-    pub field: Field,
+    pub field: &'a Field,
     pub operator: Operator,
     pub value: &'a [u8],
 }
@@ -27,7 +27,7 @@ impl<'a> Model for Comparison<'a> {
 
     ghost Value = { Comparison };
 
-    ghost view = { λ c. record { field = c.field; operator = c.operator; value = c.value.now } };
+    ghost view = { λ c. record { field = c.field.now; operator = c.operator; value = c.value.now } };
 }
 
 /// A comparison at the front of a text, and what stands behind it.
@@ -195,13 +195,13 @@ fn begins_with_name(text: &[u8], name: &Name8) -> bool
 }
 
 /// The field of the name with which a text begins.
-fn field_named(segment: &SegType, text: &[u8]) -> Option<Field>
+fn field_named<'a>(segment: &'a SegType, text: &[u8]) -> Option<&'a Field>
     requires { 8 ≤ length text.now }
-    ensures { result ≡ find (λ f. bytes_eq f.name (take 8 text.now)) segment.now.fields }
+    ensures { option_copied result ≡ find (λ f. bytes_eq f.name (take 8 text.now)) segment.now.fields }
 {
     for field in &segment.fields {
         if begins_with_name(text, &field.name) {
-            return Some(*field);
+            return Some(field);
         }
     }
     None
@@ -209,7 +209,7 @@ fn field_named(segment: &SegType, text: &[u8]) -> Option<Field>
 
 impl<'a> Comparison<'a> {
     /// The comparison at the front of a text, where the bracket that ends a qualification stands right behind it.
-    pub fn closed(segment: &SegType, text: &'a [u8]) -> Option<Comparison<'a>>
+    pub fn closed(segment: &'a SegType, text: &'a [u8]) -> Option<Comparison<'a>>
         ensures { result ≡ closed_comparison segment.now text.now }
     {
         if text.len() < 10 {
@@ -233,7 +233,7 @@ impl<'a> Comparison<'a> {
 impl<'a> ComparisonRead<'a> {
     /// The comparison at the front of a text. AJ where eight bytes for a field's name are lacking, for an unknown operator and for a
     /// short value; AK where the type has no field of the name.
-    pub fn read(segment: &SegType, text: &'a [u8]) -> Result<ComparisonRead<'a>, Status>
+    pub fn read(segment: &'a SegType, text: &'a [u8]) -> Result<ComparisonRead<'a>, Status>
         ensures { result ≡ read_comparison segment.now text.now }
     {
         if text.len() < 8 {

@@ -13,27 +13,29 @@ use crate::question::Question;
 use hd_dbd::{Key, SegType, Status, compare_keys};
 use std::marker::Model;
 
-/// A qualification, by its text in the call and the type of which it speaks, and its comparison, where it has but one. It takes no
-/// memory: of several comparisons, whoever asks reads the text again.
+/// The comparisons of a qualification: the only one, or the type of which it speaks and its text in the call.
+#[derive(Drop)]
+enum Comparisons<'a> {
+    One(Comparison<'a>),
+    More(&'a SegType, &'a [u8]),
+}
+
+/// A qualification. It takes no memory: of several comparisons, whoever asks reads the text again.
 #[derive(Drop)]
 pub struct Qualification<'a> {
-    segment: &'a SegType,
-    text: &'a [u8],
-    single: Option<Comparison<'a>>,
+    comparisons: Comparisons<'a>,
 }
 
 impl<'a> Model for Qualification<'a> {
-    ghost use Rattle.std.specs.Prelude.{List, ◌≡◌, Ok};
-    ghost use Rattle.hd_calls.specs.Ssas.{Comparison, read_qualification};
-    ghost use Rattle.hd_ssa.specs.Texts.{groups_in, single_of};
+    ghost use Rattle.std.specs.Prelude.{List};
+    ghost use Rattle.hd_calls.specs.Ssas.{Comparison};
+    ghost use Rattle.hd_ssa.specs.Comparisons.{groups_of, IsReadWhole};
 
     ghost Value = { List (List Comparison) };
 
-    ghost view = { λ q. groups_in q.segment.now q.text.now };
+    ghost view = { λ q. groups_of q.comparisons };
 
-    ghost invariant = { λ q.
-        (read_qualification q.segment.now q.text.now ≡ Ok (groups_in q.segment.now q.text.now))
-        × (q.single ≡ single_of (groups_in q.segment.now q.text.now)) };
+    ghost invariant = { λ q. IsReadWhole q.comparisons };
 }
 
 impl<'a> Qualification<'a> {
@@ -43,9 +45,7 @@ impl<'a> Qualification<'a> {
     {
         let comparison = Comparison::closed(segment, text)?;
         Some(Qualification {
-            segment,
-            text,
-            single: Some(comparison),
+            comparisons: Comparisons::One(comparison),
         })
     }
 
@@ -59,16 +59,12 @@ impl<'a> Qualification<'a> {
         };
         if read.closes() {
             return Ok(Qualification {
-                segment,
-                text,
-                single: Some(read.comparison),
+                comparisons: Comparisons::One(read.comparison),
             });
         }
         check_comparisons(segment, text)?;
         Ok(Qualification {
-            segment,
-            text,
-            single: None,
+            comparisons: Comparisons::More(segment, text),
         })
     }
 
@@ -76,9 +72,11 @@ impl<'a> Qualification<'a> {
     pub fn holds(&self, bytes: &[u8]) -> bool
         ensures { result ≡ list_any (λ group. list_all (λ c. is_true_of bytes.now c) group) self.now }
     {
-        match &self.single {
-            Some(comparison) => comparison.is_true_of(bytes),
-            None => some_group_passes(self.segment, self.text, Question::IsTrue(bytes)),
+        match &self.comparisons {
+            Comparisons::One(comparison) => comparison.is_true_of(bytes),
+            Comparisons::More(segment, text) => {
+                some_group_passes(segment, text, Question::IsTrue(bytes))
+            }
         }
     }
 
@@ -86,9 +84,11 @@ impl<'a> Qualification<'a> {
     pub fn is_past(&self, key: Key, bytes: &[u8]) -> bool
         ensures { result ≡ are_groups_past key bytes.now self.now }
     {
-        match &self.single {
-            Some(comparison) => comparison.is_past(key, bytes),
-            None => !some_group_passes(self.segment, self.text, Question::IsNotPast(key, bytes)),
+        match &self.comparisons {
+            Comparisons::One(comparison) => comparison.is_past(key, bytes),
+            Comparisons::More(segment, text) => {
+                !some_group_passes(segment, text, Question::IsNotPast(key, bytes))
+            }
         }
     }
 
@@ -96,9 +96,9 @@ impl<'a> Qualification<'a> {
     pub fn least_bound(&self, key: Key) -> Option<&'a [u8]>
         ensures { option_copied result ≡ least_bound key None self.now }
     {
-        match &self.single {
-            Some(comparison) => comparison.bound_of(key),
-            None => least_bound(self.segment, self.text, key),
+        match &self.comparisons {
+            Comparisons::One(comparison) => comparison.bound_of(key),
+            Comparisons::More(segment, text) => least_bound(segment, text, key),
         }
     }
 
@@ -106,9 +106,9 @@ impl<'a> Qualification<'a> {
     pub fn key_asked(&self, key: Key) -> Option<&'a [u8]>
         ensures { option_copied result ≡ option_and_then (λ c. equal_to key c) (single_of self.now) }
     {
-        match &self.single {
-            Some(comparison) => comparison.equal_to(key),
-            None => None,
+        match &self.comparisons {
+            Comparisons::One(comparison) => comparison.equal_to(key),
+            Comparisons::More(_, _) => None,
         }
     }
 }
@@ -215,7 +215,8 @@ fn with_group<'a>(least: Option<&'a [u8]>, bound: Option<&'a [u8]>) -> Option<&'
 }
 
 /// The least of the groups' greatest bounds of a key.
-fn least_bound<'a>(segment: &SegType, text: &'a [u8], key: Key) -> Option<&'a [u8]>
+#[inline(never)]
+fn least_bound<'a>(segment: &'a SegType, text: &'a [u8], key: Key) -> Option<&'a [u8]>
     requires { read_qualification segment.now text.now ≡ Ok (groups_in segment.now text.now) }
     ensures { option_copied result ≡ least_bound key None (groups_in segment.now text.now) }
 {

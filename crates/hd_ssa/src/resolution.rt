@@ -343,6 +343,7 @@ fn resolve_heads<'a>(
 }
 
 /// What the texts of segment search arguments mean to a PCB.
+#[inline(never)]
 fn resolve_texts<'a>(
     alloc: Global,
     function: Function,
@@ -374,15 +375,14 @@ pub fn resolve<'a>(
     ensures status { (st : Status) → result ≡ Err (SsaFault.Status st) → resolve (record { types = dbd.now.types; pcb = pcb.now }) function (map (λ s. s.items) ssas.now) ≡ Err st }
     ensures memory { length ssas.now ≤ 4 → IfErr result (λ e. e ≢ SsaFault.Memory) }
 {
-    if ssas.len() <= 4 {
-        let mut few = Resolved {
-            ssas: SmallVec::new(alloc),
-        };
-        if read_down(dbd, pcb, ssas, &mut few.ssas)
-            && suits(function, dbd, pcb, few.ssas.as_slice())
-        {
-            return Ok(few);
-        }
+    let mut few = Resolved {
+        ssas: SmallVec::new(alloc),
+    };
+    if ssas.len() <= 4
+        && read_down(dbd, pcb, ssas, &mut few.ssas)
+        && suits(function, dbd, pcb, few.ssas.as_slice())
+    {
+        return Ok(few);
     }
     resolve_texts(alloc, function, ssas, pcb, dbd)
 }

@@ -9,5 +9,5 @@ pub invariant_of-result-2 : goal.invariant_of-result-2
 invariant_of-result-2 c =
     let whole = c.in_ok-check_comparisons.ensures.ok in (
       whole,
-      sym (single_open c.args.segment.now c.args.text.now c.in-Ok.read whole (sym c.read.ensures ∙ c.in-Ok.is) (sym c.closes.ensures ∙ c.if-closes.false)),
+      single_open c.args.segment.now c.args.text.now c.in-Ok.read whole (sym c.read.ensures ∙ c.in-Ok.is) (sym c.closes.ensures ∙ c.if-closes.false),
     )
