@@ -83,10 +83,10 @@ impl CallRoom {
         let (line, mut rest) = first_line(step.text);
         self.begin(line)?;
         'lines: while !rest.is_empty() {
-            let (line, after) = next_line(rest);
-            if ends_call(line) {
+            if ends_call(rest) {
                 return Ok(());
             }
+            let (line, after) = next_line(rest);
             self.add_line(line)?;
             rest = after;
         }
@@ -126,6 +126,7 @@ impl CallRoom {
     }
 
     /// Gives the call one segment search argument more.
+    #[inline(always)] // It is called for most lines, and the call would put aside more than the text has.
     fn add_argument(&mut self, text: &[u8]) -> Result<(), AllocError>
         ensures { IfOk result (λ _. self.new ≡ with_argument text.now self.old) }
     {
@@ -149,7 +150,7 @@ fn first_line(text: &[u8]) -> (&[u8], &[u8])
     next_line(text)
 }
 
-/// Whether a line selects a PCB, or is a call.
+/// Whether a line selects a PCB, or is a call: so does a text that begins with it.
 fn ends_call(line: &[u8]) -> bool
     ensures { result ≡ ends_call line.now }
 {

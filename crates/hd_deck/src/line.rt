@@ -2,12 +2,16 @@ ghost use Rattle.std.specs.Prelude.{◌≡◌, ◌==◌, ◌<◌, ◌≤◌, ◌
 ghost use Rattle.std.specs.List.{prefix_len};
 ghost use Rattle.hd_dbd.specs.Naming.{is_letter};
 ghost use Rattle.hd_deck.specs.Deck.{belongs_to_call, call, call_in, column, columns, has_function, is_function, number_in, read_call, read_hex, read_line, read_part, read_select, repeat_in, select};
+ghost use Rattle.hd_lines.specs.Blanks.{is_blank};
 ghost use Rattle.hd_lines.specs.Digits.{is_digit, value_of};
 ghost use Rattle.hd_deck.specs.Lines.{kind_in, KindFits};
 
 use crate::deck::DeckFault;
 use crate::hex::are_hex_bytes;
 use hd_lines::{is_blank, unpadded};
+
+/// Four blanks as one number.
+const FOUR_BLANKS: u32 = 0x2020_2020;
 
 /// What a line of a deck says. What it says of a call is read when the call is made.
 #[derive(Clone, Copy)]
@@ -37,10 +41,8 @@ pub(crate) fn read_line(
     if line.len() > 255 {
         return Err(DeckFault::K6(number));
     }
-    if is_blank(line) {
-        return Ok(Statement::Comment);
-    }
     match column(line, 1) {
+        b' ' if is_blank(line) => Ok(Statement::Comment),
         b'*' => Ok(Statement::Comment),
         b'S' => Ok(Statement::Select(read_select(line, number, pcbs)?)),
         b'L' => Ok(Statement::Call(read_call(line, number)?)),
@@ -119,13 +121,20 @@ fn read_call(line: &[u8], number: usize) -> Result<u16, DeckFault>
     Ok(repeat)
 }
 
+/// Whether four bytes are blanks: they are compared at once.
+fn are_blanks(bytes: [u8; 4]) -> bool
+    ensures { result ≡ is_blank bytes }
+{
+    u32::from_be_bytes(bytes) == FOUR_BLANKS
+}
+
 /// How often an L line's call is made, by columns 2 to 5.
 fn repeat_in(line: &[u8]) -> Option<u16>
     ensures value { result ≡ repeat_in line.now }
     ensures fit { IfSome result (λ k. (0 < k) × (k ≤ 9999)) }
 {
     let columns = four_columns(line, 2);
-    if is_blank(&columns) {
+    if are_blanks(columns) {
         return Some(1);
     }
     match number_in(&columns)? {
@@ -202,6 +211,14 @@ pub(crate) fn four_columns(line: &[u8], number: usize) -> [u8; 4]
     ensures value { result ≡ columns line.now number 4 }
     ensures len { length result ≡ 4 }
 {
+    if number + 3 <= line.len() {
+        return [
+            line[number - 1],
+            line[number],
+            line[number + 1],
+            line[number + 2],
+        ];
+    }
     [
         column(line, number),
         column(line, number + 1),

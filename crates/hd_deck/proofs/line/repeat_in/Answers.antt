@@ -18,7 +18,7 @@ returns-in_default-clause-value c =
     let columns_are = c.four_columns-columns.ensures.value in
     let found = read_columns c.four_columns-columns.result c.in_ok-repeat.repeat c.four_columns-columns.ensures.len (sym c.in_ok-repeat.was ∙ c.number_in.ensures) in
     let above : 0 < c.in_ok-repeat.repeat = omega arith in
-    counted c.args.line.now c.in_ok-repeat.repeat (ap is_blank (sym columns_are) ∙ sym c.is_blank.ensures ∙ c.if-is_blank.false) (ap number_in (sym columns_are) ∙ found.0) above
+    counted c.args.line.now c.in_ok-repeat.repeat (ap is_blank (sym columns_are) ∙ sym c.are_blanks.ensures ∙ c.if-are_blanks.false) (ap number_in (sym columns_are) ∙ found.0) above
 
 pub returns-in_default-clause-fit : goal.returns-in_default-clause-fit
 returns-in_default-clause-fit c =
