@@ -8,3 +8,5 @@ pub mod BlockFaults
 pub mod PlaceLemmas
 pub mod Lent
 pub mod KeyPlaces
+pub mod LongSegments
+pub mod DataBlocks

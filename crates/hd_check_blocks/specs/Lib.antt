@@ -6,3 +6,4 @@ pub mod Finding
 pub mod Listing
 pub mod Heads
 pub mod Keys
+pub mod DataBlocks

@@ -1,5 +1,5 @@
 //! The key of a stored segment.
-ghost use Rattle.std.specs.Prelude.{◌≡◌};
+ghost use Rattle.std.specs.Prelude.{◌≡◌, IfSome};
 ghost use Rattle.hd_bytes.specs.Ranges.{bytes_at};
 ghost use Rattle.hd_dbd.specs.Rows.{key_of};
 ghost use Rattle.hd_prefix.specs.Fields.{bytes_of, IsWhole};
@@ -68,4 +68,12 @@ pub fn key_at<'s>(place: Option<KeyPlace>, dbd: &Dbd, code: u8, segment: &'s [u8
         return stored_key(dbd, code, segment);
     };
     bytes_in(place, segment)
+}
+
+/// The key of a stored segment with which some bytes begin, by where the segments of its type have it; `None` where there are fewer bytes.
+pub fn whole_key(place: KeyPlace, bytes: &[u8]) -> Option<&[u8]>
+    ensures { IfSome result (λ key. key.now ≡ bytes_at bytes.now place.start place.length) }
+{
+    let behind = bytes.get(place.start..)?;
+    behind.get(..place.length)
 }

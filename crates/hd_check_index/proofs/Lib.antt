@@ -19,7 +19,6 @@ pub mod Walks
 pub mod UnnamedRoots
 pub mod EntrySteps
 pub mod DataBlocks
-pub mod LongSegments
 pub mod NamedEntries
 pub mod Sequences
 pub mod OrderSteps

@@ -9,6 +9,7 @@ mod block_names;
 mod entry_order;
 mod extents;
 mod forms;
+mod key_order;
 mod listed;
 mod names;
 mod next_blocks;

@@ -18,6 +18,7 @@ ghost use Rattle.hd_check_index.specs.EntryOrders.{IsLeft, is_below_least, found
 ghost use Rattle.hd_check_index.specs.Judging.{IsFirst, WhereFound};
 
 use crate::extents::{Extent, extent_below, extent_between};
+use crate::key_order::order_of;
 use crate::rows::{Standing, row_start};
 use hd_dbd::{Refused, compare_keys};
 use hd_index_blocks::{FIRST, IndexBlock};
@@ -136,7 +137,7 @@ fn is_less(one: &[u8], other: &[u8]) -> bool
     requires as_long { length one.now ≡ length other.now }
     ensures { result ≡ key_less one.now other.now }
 {
-    compare_keys(one, other).is_lt()
+    order_of(one, other).is_lt()
 }
 
 /// Whether a block has entries and their keys ascend, the first of them above the one to its left.

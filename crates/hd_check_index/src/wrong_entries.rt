@@ -18,16 +18,19 @@ ghost use Rattle.hd_check_blocks.specs.Phases.{IsLeastOf};
 ghost use Rattle.hd_check_blocks.specs.Listing.{AreStanding};
 ghost use Rattle.hd_check_blocks.specs.Places.{IsPlaceOf, ArePlaces};
 ghost use Rattle.hd_check_blocks.specs.Keys.{key_place};
-ghost use Rattle.hd_check_index.specs.DataBlocks.{OfBlockAt, BeginThere, OfDataBlock, FirstNameRoots, AreFirstNoted};
+ghost use Rattle.hd_check_blocks.specs.DataBlocks.{OfDataBlock};
+ghost use Rattle.hd_check_index.specs.DataBlocks.{FirstNameRoots, AreFirstNoted};
 ghost use Rattle.hd_check_index.specs.IndexPhases.{OfCounted, IsSequence, AreNamed, AllNameRoots, first_wrong_in, first_wrong_entry};
 ghost use Rattle.hd_check_blocks.specs.Finding.{WhereNone, WhereSome};
 
+use crate::key_order::order_of;
 use crate::listed::fault_naming;
 use crate::noted_blocks::block_address;
 use hd_check_blocks::{
-    Directory, Fault, KeyPlace, Place, key_at, key_place, list_fault, number_near,
+    Directory, Fault, KeyPlace, Place, bytes_from, key_at, key_place, list_fault, number_near,
+    whole_key,
 };
-use hd_dbd::{Dbd, Refused, compare_keys};
+use hd_dbd::{Dbd, Refused};
 use hd_image::Line;
 use hd_index_blocks::{FIRST, IndexBlock, root_key_length};
 use hd_stores::BlockStore;
@@ -39,7 +42,7 @@ fn has_key(own: Option<KeyPlace>, dbd: &Dbd, segment: &[u8], key: &[u8]) -> bool
     requires { own ≡ key_place dbd.now.types 1 }
     ensures { IsWhole dbd.now.types 1 segment.now → result ≡ bytes_eq (key_of dbd.now.types (record { code = 1; bytes = bytes_of dbd.now.types 1 segment.now })) key.now }
 {
-    compare_keys(key_at(own, dbd, 1, segment), key).is_eq()
+    order_of(key_at(own, dbd, 1, segment), key).is_eq()
 }
 
 /// Whether an address is that of a root, which is looked for at a number first; that of the place behind it is kept then.
@@ -81,20 +84,6 @@ fn names_root<S: BlockStore>(
     Ok(has_key(own, dbd, segment, key))
 }
 
-/// The bytes of a data block that begins at an address from another on; `None` where that is not in the block.
-fn bytes_from<'b>(bytes: &'b [u8], first: u32, address: u32) -> Option<&'b [u8]>
-    ensures { IfSome result (λ s. OfBlockAt bytes.now first (λ v. IsFormatted v → HasSegment v address 0 → BeginThere v address s.now)) }
-{
-    if address < first {
-        return None;
-    }
-    let at = (address - first) as usize;
-    if at >= bytes.len() {
-        return None;
-    }
-    Some(&bytes[at..])
-}
-
 /// Whether a root stands at an address, which is that of the place of a number.
 fn is_root_at(places: &[Place], number: usize, address: u32) -> bool
     ensures { result ≡ true → IsPlaceOf (record { address = address; code = 1 }) places.now }
@@ -109,10 +98,22 @@ fn is_root_at(places: &[Place], number: usize, address: u32) -> bool
     place.code == 1
 }
 
+/// Whether the root with which some bytes begin has a key, by where roots, which are all of one length, have theirs.
+fn has_own_key(place: KeyPlace, dbd: &Dbd, bytes: &[u8], key: &[u8]) -> bool
+    requires { Some place ≡ key_place dbd.now.types 1 }
+    ensures { result ≡ true → bytes_eq (key_of dbd.now.types (record { code = 1; bytes = bytes_of dbd.now.types 1 bytes.now })) key.now ≡ true }
+{
+    let _types = dbd.types();
+    match whole_key(place, bytes) {
+        Some(own) => order_of(own, key).is_eq(),
+        None => false,
+    }
+}
+
 /// Whether an entry of a key and an address names a root of its key, which is at the place of a number, and in a data block that begins at another
 /// address.
 fn names_root_in(
-    own: Option<KeyPlace>,
+    own: KeyPlace,
     places: &[Place],
     number: usize,
     bytes: &[u8],
@@ -121,14 +122,14 @@ fn names_root_in(
     key: &[u8],
     address: u32,
 ) -> bool
-    requires own { own ≡ key_place dbd.now.types 1 }
+    requires own { Some own ≡ key_place dbd.now.types 1 }
     ensures { result ≡ true → OfDataBlock dbd.now places.now bytes.now first (λ v. names_a_root dbd.now (links_of dbd.now.types v) (record { key = key.now; address = address }) ≡ true) }
 {
     if !is_root_at(places, number, address) {
         return false;
     }
     match bytes_from(bytes, first, address) {
-        Some(segment) => has_key(own, dbd, segment, key),
+        Some(segment) => has_own_key(own, dbd, segment, key),
         None => false,
     }
 }
@@ -137,7 +138,7 @@ fn names_root_in(
 /// on, and in one data block; the index behind them.
 fn name_on(
     named: &mut Vec<u32>,
-    own: Option<KeyPlace>,
+    own: KeyPlace,
     places: &[Place],
     near: usize,
     bytes: &[u8],
@@ -146,7 +147,7 @@ fn name_on(
     block: &IndexBlock,
     index: usize,
 ) -> Result<usize, Refused>
-    requires own { own ≡ key_place dbd.now.types 1 }
+    requires own { Some own ≡ key_place dbd.now.types 1 }
     requires low { index ≤ entry_count block.now.key_length block.now.bytes.now }
     ensures low { IfOk result (λ i. (index ≤ i) × (i ≤ entry_count block.now.key_length block.now.bytes.now)) }
     ensures right { IfOk result (λ i. OfDataBlock dbd.now places.now bytes.now first (λ v. FirstNameRoots dbd.now v block.now.key_length block.now.bytes.now index → FirstNameRoots dbd.now v block.now.key_length block.now.bytes.now i)) }
@@ -190,7 +191,7 @@ fn is_beside(
 /// Notes what the entries of an index block name, as `name_on` does, over the data block of an address, which is read.
 fn name_beside<S: BlockStore>(
     named: &mut Vec<u32>,
-    own: Option<KeyPlace>,
+    own: KeyPlace,
     places: &[Place],
     near: usize,
     volume: &mut Volume<S>,
@@ -199,7 +200,7 @@ fn name_beside<S: BlockStore>(
     block: &IndexBlock,
     index: usize,
 ) -> Result<usize, Refused>
-    requires own { own ≡ key_place dbd.now.types 1 }
+    requires own { Some own ≡ key_place dbd.now.types 1 }
     requires low { index ≤ entry_count block.now.key_length block.now.bytes.now }
     requires of { IsTrue volume.old.is_sound → IsVolumeOf dbd.now volume.old }
     requires places { IsTrue volume.old.is_sound → ArePlaces dbd.now.types volume.old places.now }
@@ -251,11 +252,14 @@ fn judge_from<S: BlockStore>(
     }
     let behind = index + 1;
     let size = volume.block_size() as u32;
+    let Some(place) = own else {
+        return Ok(Some(behind));
+    };
     if !is_beside(places, *near, block, behind, address, size) {
         return Ok(Some(behind));
     }
     let end = name_beside(
-        named, own, places, *near, volume, address, dbd, block, behind,
+        named, place, places, *near, volume, address, dbd, block, behind,
     )?;
     *near = near.saturating_add(end - behind);
     Ok(Some(end))

@@ -9,7 +9,7 @@ use Rattle.hd_image.specs.Records.{links_of}
 use Rattle.hd_check_blocks.specs.declared.places.Place.{Place}
 use Rattle.hd_check_blocks.specs.Places.{ArePlaces, place_at}
 use Rattle.hd_check_pointers.proofs.TwinChains.{chain-on, chain-some}
-use Rattle.hd_check_walk.specs.Walks.{IsHeldBy, IsFollowed, StaysHeld, IsWalkedSoFar, LeadsTo, IsEnd}
+use Rattle.hd_check_walk.specs.Walks.{IsHeldBy, IsFollowed, StaysHeld, IsWalkedSoFar, LeadsTo, IsOnChain, IsEnd}
 use Rattle.hd_check_walk.proofs.Staying.{held-stays}
 use Rattle.hd_check_walk.proofs.Steps.{stands, coded}
 
@@ -21,19 +21,6 @@ when-some P None x is h = absurd (let e : None ≡ Some x = is in cc)
 -- what is held stays held from one step to the next
 pub stays-join : (xs ys zs : List ℕ) → StaysHeld xs ys → StaysHeld ys zs → StaysHeld xs zs
 stays-join xs ys zs one two i known = two i (λ e. known (sym (one i known) ∙ e)) ∙ one i known
-
--- What is known of the twin at which a walk along the chain of h is: it is in the chain from the first, which h holds, and it is reached.
-pub record IsAtTwin (types : List SegmentType) (m : Links) (ps : List Place) (xs : List ℕ) (h t first before next : ℕ) : Type 0 where
-  pub chain : IsInChain m first before
-  pub names : m.forward before ≡ next
-  pub held : IsHeldBy ps xs h t first
-  pub there : IsSegment m before × (m.code before ≡ t)
-  pub reached : (n : ℕ) × IsReached types m n before
-
--- The walk is at the beginning of a chain, or at a twin, from where it goes on to the next.
-pub record IsOnChain (types : List SegmentType) (m : Links) (ps : List Place) (xs : List ℕ) (h t first before next : ℕ) : Type 0 where
-  pub start : before ≡ 0 → next ≡ first
-  pub twin : before ≢ 0 → IsAtTwin types m ps xs h t first before next
 
 -- at the beginning
 pub on-first : (types : List SegmentType) (m : Links) (ps : List Place) (xs : List ℕ) (h t first : ℕ) → IsOnChain types m ps xs h t first 0 first

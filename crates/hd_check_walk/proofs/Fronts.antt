@@ -1,5 +1,6 @@
 -- The fronts of keys, which tell their order where they differ.
-use Rattle.std.proofs.Common.{◌≡◌, ℕ, zero, suc, ◌-◌, ◌<◌, ◌≤◌, List, [], ◌∷◌, ◌++◌, length, take, drop, Bool, true, false, cond, Option, Some, None, refl, sym, ap, ◌∙◌, arith}
+use Rattle.std.proofs.Common.{◌≡◌, ℕ, zero, suc, ◌<◌, ◌≤◌, List, [], ◌∷◌, ◌++◌, length, take, drop, Bool, true, false, cond, Option, Some, None, refl, sym, ap, ◌∙◌, arith, get_or, w64}
+use Rattle.std.specs.Int.{from_be_bytes, to_be_bytes}
 use Rattle.std.specs.Prelude.{replicate, ◌==◌, nat_lt}
 use Rattle.std.specs.Option.{option_map_or}
 use Rattle.std.specs.Ordering.{nat_cmp, is_lt, is_le, ordering_then}
@@ -7,8 +8,11 @@ use Rattle.std.specs.Cmp.Lexicographic.{slice_cmp}
 use Rattle.std.specs.declared.cmp.Ordering.{Ordering}
 use Rattle.std.specs.declared.cmp.Ordering.TheVariants.{Less, Equal, Greater}
 use Rattle.std.proofs.lemmas.Bool.{le-ltb, false≢true}
+use Rattle.std.proofs.lemmas.List.{take_all}
+use Rattle.std.proofs.lemmas.Nat.{be_bytes_8}
 use Rattle.hd_dbd.specs.declared.hierarchy.Key.{Key}
 use Rattle.hd_dbd.specs.Types.{SegmentType}
+use Rattle.hd_dbd.specs.KeyNumbers.{with_zeros, IsNumberOf}
 use Rattle.hd_dbd.specs.Segment.{Segment}
 use Rattle.hd_dbd.specs.Hierarchy.{Database, type_of}
 use Rattle.hd_dbd.specs.Rows.{key_of, twins_in_order}
@@ -55,18 +59,28 @@ copied-padded (suc n) (suc k) (x ∷ xs) low within all =
 pub copied-front : (k : ℕ) (key : List ℕ) → k ≤ 8 → k ≤ length key → (k < 8 → length key ≤ k) → take k key ++ drop k (replicate 8 0) ≡ key_front key
 copied-front k key low within all = copied-padded 8 k key low within all ∙ padded-is 8 8 key (omega arith)
 
--- and so do its first four and its last four
-pub halves-front : (key one two : List ℕ) → 4 ≤ length key → length key < 8 → one ≡ take 4 key → two ≡ take (length key - (length key - 4)) (drop (length key - 4) key)
-    → take (length key - 4) (one ++ replicate 4 0) ++ (two ++ drop (length key - (length key - 4)) (drop (length key - 4) (one ++ replicate 4 0))) ≡ key_front key
-halves-front [] one two low high is last = absurd (omega arith)
-halves-front (a ∷ []) one two low high is last = absurd (omega arith)
-halves-front (a ∷ b ∷ []) one two low high is last = absurd (omega arith)
-halves-front (a ∷ b ∷ c ∷ []) one two low high is last = absurd (omega arith)
-halves-front (a ∷ b ∷ c ∷ d ∷ []) one two low high is last = rw (is, last) refl
-halves-front (a ∷ b ∷ c ∷ d ∷ e ∷ []) one two low high is last = rw (is, last) refl
-halves-front (a ∷ b ∷ c ∷ d ∷ e ∷ f ∷ []) one two low high is last = rw (is, last) refl
-halves-front (a ∷ b ∷ c ∷ d ∷ e ∷ f ∷ g ∷ []) one two low high is last = rw (is, last) refl
-halves-front (a ∷ b ∷ c ∷ d ∷ e ∷ f ∷ g ∷ h ∷ rest) one two low high is last = absurd (omega arith)
+-- so many bytes, zeros behind, are as many
+padded-long : (n : ℕ) (xs : List ℕ) → length (padded n xs) ≡ n
+padded-long zero xs = refl
+padded-long (suc n) [] = ap suc (padded-long n [])
+padded-long (suc n) (x ∷ xs) = ap suc (padded-long n xs)
+
+-- and bytes where those are
+padded-small : (n : ℕ) (xs : List ℕ) → ((i : ℕ) → get_or xs i 0 < 256) → (i : ℕ) → get_or (padded n xs) i 0 < 256
+padded-small zero xs small i = omega arith
+padded-small (suc n) [] small zero = omega arith
+padded-small (suc n) [] small (suc i) = padded-small n [] small i
+padded-small (suc n) (x ∷ xs) small zero = small 0
+padded-small (suc n) (x ∷ xs) small (suc i) = padded-small n xs (λ j. small (suc j)) i
+
+-- the bytes of a key's number are its front
+pub number-front : (key : List ℕ) (number : ℕ) → length key ≤ 8 → ((i : ℕ) → get_or key i 0 < 256) → IsNumberOf (length key) key number → to_be_bytes w64 number ≡ key_front key
+number-front key number short small of =
+    let long : length (padded 8 key) ≡ 8 = padded-long 8 key in
+    let zeros : with_zeros key ≡ padded 8 key = ap (λ (xs : List ℕ). xs ++ drop (length key) (replicate 8 0)) (sym (take_all (length key) key (omega arith)))
+    ∙ copied-padded 8 (length key) key short (omega arith) (λ l. omega arith) in
+    let whole : take 8 (with_zeros key) ≡ padded 8 key = ap (take 8) zeros ∙ take_all 8 (padded 8 key) (omega arith) in
+    be_bytes_8 (padded 8 key) number long (padded-small 8 key small) (of.is ∙ ap (from_be_bytes w64) whole) ∙ padded-is 8 8 key (omega arith)
 
 -- where the first elements do not decide, the rest does
 then-less : (o a b : Ordering) → (a ≡ Less → b ≡ Less) → ordering_then o a ≡ Less → ordering_then o b ≡ Less

@@ -3,9 +3,11 @@ pub mod Waiting
 pub mod SegmentFacts
 pub mod Numbers
 pub mod Fronts
+pub mod Begun
 pub mod Noted
 pub mod Steps
 pub mod Chains
 pub mod Children
 pub mod RootWalks
 pub mod Linked
+pub mod GoingOn

@@ -64,7 +64,7 @@ module _ (types : List SegmentType) (v : VolumeState) (ps : List Place) (are : A
     held = set-same xs n h (subst (λ (k : ℕ). n < k) (sym many) new.0)
 
     -- by a pointer that leads to a segment of its type
-    held-by : IsHeldBy ps (slice_set xs n h) h t a
+    pub held-by : IsHeldBy ps (slice_set xs n h) h t a
     held-by = (n, new.0, new.1, held, some)
 
     stays : StaysHeld xs (slice_set xs n h)

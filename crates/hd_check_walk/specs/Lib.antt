@@ -3,3 +3,4 @@ pub mod Reading
 pub mod Notes
 pub mod Twins
 pub mod Forms
+pub mod GoingOn

@@ -3,6 +3,7 @@ use Rattle.std.specs.Prelude.{◌≡◌, ◌≤◌, ◌<◌, ℕ, List, ◌++◌
 use Rattle.hd_dbd.specs.Types.{SegmentType}
 use Rattle.hd_dbd.specs.Hierarchy.{Database}
 use Rattle.hd_dbd.specs.Rows.{key_of}
+use Rattle.hd_prefix.specs.Fields.{bytes_of, IsWhole}
 use Rattle.hd_volume.specs.Volumes.{VolumeState}
 use Rattle.hd_links.specs.Links.{Links, segment_at, is_child_type}
 use Rattle.hd_image.specs.Records.{links_of, IsVolumeOf}
@@ -21,6 +22,10 @@ IsChildless types m a = (t : ℕ) → is_child_type types (m.code a) t ≡ true 
 abbrev pub OfRead : Database → ℕ → ℕ → List ℕ → (Links → Type 0) → Type 0
 OfRead d a code segment fact =
     (v : VolumeState) → IsVolumeOf d v → IsLent d.types v a segment → (links_of d.types v).code a ≡ code → fact (links_of d.types v)
+
+-- where the bytes are a whole segment of the type of a code, the key is that of its row
+abbrev pub IsKeyOf : List SegmentType → ℕ → List ℕ → List ℕ → Type 0
+IsKeyOf types code segment key = IsWhole types code segment → key ≡ key_of types (record { code = code; bytes = bytes_of types code segment })
 
 -- the first eight bytes of a key, zeros behind a shorter one
 abbrev pub key_front : List ℕ → List ℕ

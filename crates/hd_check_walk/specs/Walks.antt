@@ -4,7 +4,7 @@ use Rattle.hd_dbd.specs.Types.{SegmentType}
 use Rattle.hd_dbd.specs.Rows.{twins_in_order}
 use Rattle.hd_dbd.specs.Prefixes.{is_backward_kept}
 use Rattle.hd_volume.specs.Indexes.{IsAmong}
-use Rattle.hd_links.specs.Links.{Links, segment_at, is_child_type}
+use Rattle.hd_links.specs.Links.{Links, IsSegment, segment_at, is_child_type}
 use Rattle.hd_links.specs.Pointers.{IsTwinBefore, IsParentOfFirst, IsReached, IsInChain}
 use Rattle.hd_check_blocks.specs.declared.places.Place.{Place}
 use Rattle.hd_check_blocks.specs.Places.{place_at}
@@ -84,6 +84,19 @@ StepsOn types m places before a waiting holders waiting2 holders2 =
 -- the same, of the links of a volume
 abbrev pub StepsIn : Database → VolumeState → List Place → ℕ → ℕ → List ℕ → List ℕ → List ℕ → List ℕ → Type 0
 StepsIn d v places before a waiting holders waiting2 holders2 = StepsOn d.types (links_of d.types v) places before a waiting holders waiting2 holders2
+
+-- What is known of the twin at which a walk along the chain of h is: it is in the chain from the first, which h holds, and it is reached.
+pub record IsAtTwin (types : List SegmentType) (m : Links) (ps : List Place) (xs : List ℕ) (h t first before next : ℕ) : Type 0 where
+  pub chain : IsInChain m first before
+  pub names : m.forward before ≡ next
+  pub held : IsHeldBy ps xs h t first
+  pub there : IsSegment m before × (m.code before ≡ t)
+  pub reached : (n : ℕ) × IsReached types m n before
+
+-- The walk is at the beginning of a chain, or at a twin, from where it goes on to the next.
+pub record IsOnChain (types : List SegmentType) (m : Links) (ps : List Place) (xs : List ℕ) (h t first before next : ℕ) : Type 0 where
+  pub start : before ≡ 0 → next ≡ first
+  pub twin : before ≢ 0 → IsAtTwin types m ps xs h t first before next
 
 -- The segment `end` is the last twin of the chain from a first, or 0 where that is 0.
 pub record IsEnd (m : Links) (first end : ℕ) : Type 0 where

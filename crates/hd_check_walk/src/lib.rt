@@ -1,6 +1,7 @@
 //! One walk along the pointers of a volume, over what was noted of its segments block by block where they lie scattered.
 #![tactic(auto)]
 
+mod beside;
 mod guide;
 mod notes;
 mod scattered;

@@ -1,17 +1,18 @@
 //! What a walk asks of one segment.
-ghost use Rattle.std.specs.Prelude.{◌≡◌, ◌≤◌, ◌⊎◌, ℕ, List, length, true, IfSome};
+ghost use Rattle.std.specs.Prelude.{◌≡◌, ◌≤◌, ◌⊎◌, ℕ, List, length, take, true, Some, IfSome};
 ghost use Rattle.hd_dbd.specs.Types.{SegmentType};
+ghost use Rattle.hd_dbd.specs.Hierarchy.{Database};
 ghost use Rattle.hd_dbd.specs.Prefixes.{prefix_length};
 ghost use Rattle.hd_dbd.specs.Rows.{key_of};
 ghost use Rattle.hd_prefix.specs.declared.pointer.Pointer.TheVariants.{TwinBackward};
 ghost use Rattle.hd_prefix.specs.Fields.{pointer_of, twins_end};
-ghost use Rattle.hd_links.specs.Links.{segment_at};
-ghost use Rattle.hd_check_walk.specs.Reading.{AreZero, IsChildless, OfRead, key_front};
+ghost use Rattle.hd_links.specs.Links.{IsSegment, segment_at};
+ghost use Rattle.hd_check_walk.specs.Reading.{AreZero, IsChildless, OfRead, IsKeyOf, IsAsSeen, key_front};
 ghost use Rattle.hd_check_walk.specs.Forms.{IsFormOf};
 
 use hd_bytes::read_u32;
-use hd_check_blocks::{KeyPlace, key_at, key_place};
-use hd_dbd::Dbd;
+use hd_check_blocks::{KeyPlace, key_at, key_place, whole_key};
+use hd_dbd::{Dbd, number_of_key};
 use hd_prefix::{delete_byte_of, twin_forward_of};
 
 /// How many bytes of a key are seen.
@@ -31,15 +32,13 @@ pub struct Seen {
 fn key_front(key: &[u8]) -> [u8; FRONT]
     ensures { result ≡ key_front key.now }
 {
-    let mut front = [0; FRONT];
     let length = key.len();
+    let mut front = [0; FRONT];
     if length >= FRONT {
         front.copy_from_slice(&key[..FRONT]);
-    } else if length >= 4 {
-        // Four bytes from each end, which may overlap.
-        front[..4].copy_from_slice(&key[..4]);
-        front[length - 4..length].copy_from_slice(&key[length - 4..]);
-    } else if length > 0 {
+    } else if let Some(number) = number_of_key(key, length) {
+        return number.to_be_bytes();
+    } else {
         front[..length].copy_from_slice(key);
     }
     front
@@ -49,7 +48,7 @@ fn key_front(key: &[u8]) -> [u8; FRONT]
 /// child types.
 #[derive(Clone, Copy)]
 pub struct Form {
-    key: Option<KeyPlace>,
+    pub key: Option<KeyPlace>,
     prefix: usize,
     twins_end: usize,
     is_leaf: bool,
@@ -110,6 +109,23 @@ fn backward_in(form: &Form, segment: &[u8]) -> u32
     read_u32(segment, 6)
 }
 
+/// What is seen of the segment of a form and a key with which some bytes begin; `None` where its delete byte is not 0.
+fn seen_with(form: &Form, key: &[u8], bytes: &[u8]) -> Option<Seen>
+    requires twins { (6 ≤ form.now.twins_end) × (form.now.twins_end ≤ form.now.prefix) }
+    requires long { form.now.prefix ≤ length bytes.now }
+    ensures { (d : Database) (code a n : ℕ) → IsFormOf d.types code form.now → IsKeyOf d.types code (take n bytes.now) key.now → OfRead d a code (take n bytes.now) (λ m. IfSome result (λ s. IsAsSeen d.types m s a)) }
+{
+    if delete_byte_of(bytes) != 0 {
+        return None;
+    }
+    Some(Seen {
+        forward: twin_forward_of(bytes),
+        backward: backward_in(form, bytes),
+        front: key_front(key),
+        is_childless: names_no_children(form, bytes),
+    })
+}
+
 /// What is seen of a segment by its bytes; `None` where it is not right by itself: it is shorter than its prefix, or its delete byte is not 0.
 pub fn seen_in(form: &Form, dbd: &Dbd, code: u8, segment: &[u8]) -> Option<Seen>
     requires form { IsFormOf dbd.now.types code form.now }
@@ -120,20 +136,23 @@ pub fn seen_in(form: &Form, dbd: &Dbd, code: u8, segment: &[u8]) -> Option<Seen>
     ensures front { (a : ℕ) → OfRead dbd.now a code segment.now (λ m. IfSome result (λ s. s.front ≡ key_front (key_of dbd.now.types (segment_at m a)))) }
     ensures childless { (a : ℕ) → OfRead dbd.now a code segment.now (λ m. IfSome result (λ s. s.is_childless ≡ true → IsChildless dbd.now.types m a)) }
 {
-    if form.prefix < form.twins_end {
+    if form.prefix < form.twins_end || segment.len() < form.prefix {
         return None;
     }
-    if segment.len() < form.prefix {
+    seen_with(form, key_at(form.key, dbd, code, segment), segment)
+}
+
+/// What is seen of the segment of a type whose segments are all of one length, with which some bytes begin; `None` where it is not right by itself, and where
+/// there are fewer bytes than it has.
+pub fn seen_first(form: &Form, own: KeyPlace, dbd: &Dbd, code: u8, bytes: &[u8]) -> Option<Seen>
+    requires form { IsFormOf dbd.now.types code form.now }
+    requires own { form.now.key ≡ Some own }
+    ensures { (a n : ℕ) → OfRead dbd.now a code (take n bytes.now) (λ m. IsSegment m a → IfSome result (λ s. IsAsSeen dbd.now.types m s a)) }
+{
+    let _types = dbd.types();
+    if form.prefix < form.twins_end || bytes.len() < form.prefix {
         return None;
     }
-    if delete_byte_of(segment) != 0 {
-        return None;
-    }
-    let front = key_front(key_at(form.key, dbd, code, segment));
-    Some(Seen {
-        forward: twin_forward_of(segment),
-        backward: backward_in(form, segment),
-        front,
-        is_childless: names_no_children(form, segment),
-    })
+    let key = whole_key(own, bytes)?;
+    seen_with(form, key, bytes)
 }

@@ -20,6 +20,7 @@ ghost use Rattle.hd_check_walk.specs.Forms.{IsFormOf};
 ghost use Rattle.hd_check_walk.specs.Walks.{IsHeldBy, IsFollowed, IsUnheld, StaysHeld, LeadsTo, IsEnd, StepsIn};
 ghost use Rattle.hd_check_walk.specs.Twins.{HasFront, HaveFronts, IsKeyBehind, TellsOrder};
 
+use crate::beside::{Stand, walk_beside};
 use crate::guide::Guide;
 use crate::notes::{Note, look_at};
 use crate::segments::{FRONT, Form, Seen, form_of};
@@ -59,9 +60,9 @@ fn hold(
 
 /// A twin to which a walk came, and the first eight bytes of its key; the address is 0 for none.
 #[derive(Clone, Copy)]
-struct Twin {
-    address: u32,
-    front: [u8; FRONT],
+pub struct Twin {
+    pub address: u32,
+    pub front: [u8; FRONT],
 }
 
 /// No twin.
@@ -93,7 +94,7 @@ fn note_waiting(waiting: &mut Vec<usize>, number: usize, is_childless: bool) -> 
 }
 
 /// Whether a twin backward that is noted is the twin before, 0 for none, where the type keeps it.
-fn is_backward_right(dbd: &Dbd, code: u8, backward: u32, before: u32) -> bool
+pub fn is_backward_right(dbd: &Dbd, code: u8, backward: u32, before: u32) -> bool
     ensures { result ≡ true → is_backward_kept dbd.now.types code ≡ true → backward ≡ before }
 {
     backward == before || !dbd.keeps_backward(code)
@@ -107,7 +108,7 @@ fn is_less(one: [u8; FRONT], other: [u8; FRONT]) -> bool
 }
 
 /// Whether the first eight bytes of the keys of two twins tell that the second may come behind the first: they are less, or there is no key.
-fn is_told(dbd: &Dbd, code: u8, before: &Twin, twin: &Twin) -> bool
+pub fn is_told(dbd: &Dbd, code: u8, before: &Twin, twin: &Twin) -> bool
     ensures { (v : VolumeState) → IsVolumeOf dbd.now v → TellsOrder dbd.now.types (links_of dbd.now.types v) code before.now twin.now result }
 {
     is_less(before.front, twin.front) || !is_keyed(dbd, code)
@@ -296,10 +297,15 @@ pub fn walk_twins<S: BlockStore>(
         let Some(step) = found else {
             return Ok(None);
         };
-        volume.work_done(1);
-        before = step.twin;
-        next = step.forward;
-        near = guide.behind(step.number);
+        let stand = Stand {
+            twin: step.twin,
+            next: step.forward,
+            near: guide.behind(step.number),
+        };
+        let on = walk_beside(&form, holders, places, notes, volume, dbd, code, stand)?;
+        before = on.twin;
+        next = on.next;
+        near = on.near;
     }
     Ok(None)
 }

@@ -26,6 +26,21 @@ returns-then-not-branch-clause-wrong g c = λ sound.
 pub returns-then-is_err-clause-read : goal.returns-then-is_err-clause-read
 returns-then-is_err-clause-read g c = read-memory c.in_ok-names_root.ensures.read
 
+pub returns-in_default-clause-right : goal.returns-in_default-clause-right
+returns-in_default-clause-right g c = λ sound h.
+    let d : Database = c.args.dbd.now in
+    let v : VolumeState = c.args.volume.now in
+    let k : ℕ = c.args.block.now.key_length in
+    let b : List ℕ = c.args.block.now.bytes.now in
+    let e : Entry = entry_in k b c.args.index in
+    root-more d v k c.args.index b h
+    (sym (judged-same d v v c.key-key.result.now c.address-address.result e c.in_ok-names_root.field-0 refl refl refl c.key-key.ensures.value c.address-address.ensures (c.in_ok-names_root.ensures.value sound)) ∙ c.if-not-branch.false)
+
+pub returns-in_default-clause-named : goal.returns-in_default-clause-named
+returns-in_default-clause-named g c = λ before h.
+    let pushed : c.push.new.self.items ≡ c.args.named.now.items ++ (c.address-address.result ∷ []) = search rules in
+    noted-more before c.args.named.now.items c.push.new.self.items c.args.block.now.key_length c.args.index c.address-address.result c.args.block.now.bytes.now pushed c.address-address.ensures h
+
 pub returns-then-not-is_beside-clause-right : goal.returns-then-not-is_beside-clause-right
 returns-then-not-is_beside-clause-right g c = λ sound h.
     let d : Database = c.args.dbd.now in

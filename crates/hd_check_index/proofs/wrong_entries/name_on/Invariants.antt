@@ -1,5 +1,6 @@
 use Rattle.std.proofs.Common.{ℕ, List}
-use Rattle.hd_check_index.specs.DataBlocks.{OfDataBlock, FirstNameRoots, AreFirstNoted}
+use Rattle.hd_check_blocks.specs.DataBlocks.{OfDataBlock}
+use Rattle.hd_check_index.specs.DataBlocks.{FirstNameRoots, AreFirstNoted}
 use Rattle.hd_check_index.proofs.wrong_entries.name_on.Given as goal
 
 -- the entries from the index on name roots so far, and are noted

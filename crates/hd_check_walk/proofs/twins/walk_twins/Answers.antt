@@ -13,8 +13,10 @@ use Rattle.hd_check_blocks.proofs.PlaceLemmas.{places-same}
 use Rattle.hd_check_pointers.specs.Keys.{IsLastKey}
 use Rattle.hd_check_walk.specs.Notes.{AreNoted}
 use Rattle.hd_check_walk.specs.Twins.{HasFront}
-use Rattle.hd_check_walk.specs.Walks.{IsWalkedSoFar, LeadsTo}
-use Rattle.hd_check_walk.proofs.Chains.{IsOnChain, when-some, stays-join, on-first, leads-on, on-next, end-first, end-last, end-shut}
+use Rattle.hd_check_walk.specs.declared.beside.Stand.{Stand}
+use Rattle.hd_check_walk.specs.GoingOn.{IsStanding, GoesOn}
+use Rattle.hd_check_walk.specs.Walks.{IsWalkedSoFar, IsOnChain, LeadsTo}
+use Rattle.hd_check_walk.proofs.Chains.{when-some, stays-join, on-first, leads-on, on-next, end-first, end-last, end-shut}
 use Rattle.hd_check_walk.proofs.twins.walk_twins.Goals as goal
 
 pub loop-turn-init : goal.loop-turn-init
@@ -98,6 +100,23 @@ step_to-requires-clause-before g c = λ now some.
 pub returns-in_default-clause-read : goal.returns-in_default-clause-read
 returns-in_default-clause-read g c = read-ok None (reads-join (Ok c.in_ok-found.found) c.loop-turn.invariant.read c.in_ok-found.ensures.read)
 
+pub walk_beside-requires-clause-of : goal.walk_beside-requires-clause-of
+walk_beside-requires-clause-of g c = λ now.
+    let i = c.loop-turn.invariant in
+    let v : VolumeState = c.args.volume.now in
+    let read : IsRead {T = ℕ} v (Ok 0) c.step_to.new.volume = read-ok 0 (reads-join (Ok c.in_ok-found.found) i.read c.in_ok-found.ensures.read) in
+    let sound : IsTrue v.is_sound = rw (← read.call.sound) now in
+    volume-same c.args.dbd.now v c.step_to.new.volume (read.image now) read.call.size read.call.sizes (c.requires.of sound)
+
+pub walk_beside-requires-clause-places : goal.walk_beside-requires-clause-places
+walk_beside-requires-clause-places g c = λ now.
+    let i = c.loop-turn.invariant in
+    let types : List SegmentType = c.args.dbd.now.types in
+    let v : VolumeState = c.args.volume.now in
+    let read : IsRead {T = ℕ} v (Ok 0) c.step_to.new.volume = read-ok 0 (reads-join (Ok c.in_ok-found.found) i.read c.in_ok-found.ensures.read) in
+    let sound : IsTrue v.is_sound = rw (← read.call.sound) now in
+    places-same types v c.step_to.new.volume c.args.places.now (links-same types v c.step_to.new.volume (read.image now) read.call.size read.call.sizes) (c.requires.places sound)
+
 pub loop-turn-preserved : goal.loop-turn-preserved
 loop-turn-preserved g c =
     let types : List SegmentType = c.args.dbd.now.types in
@@ -108,45 +127,58 @@ loop-turn-preserved g c =
     let i = c.loop-turn.invariant in
     let xs : List ℕ = c.loop-turn.holders.items in
     let ys : List ℕ = c.step_to.new.holders.items in
+    let zs : List ℕ = c.walk_beside.new.holders.items in
     let before : ℕ = c.loop-turn.before.address in
     let next : ℕ = c.loop-turn.next in
     let holder : ℕ = c.holder_of-holder.result in
     let found = c.in_ok-found.found in
     let step = c.in-Some.step in
-    let at : IsTrue v.is_sound → step.twin.address ≡ next = λ sound. (let now : IsTrue w.is_sound = rw i.read.call.sound sound in (when-some _ found step c.in-Some.is (c.in_ok-found.ensures.twin now)).0) in
-    record {
-      read = read-ok 0 (reads-join (Ok found) i.read c.in_ok-found.ensures.read);
-      as_many = c.in_ok-found.ensures.as_many;
-      known = λ sound.
-          (let now : IsTrue w.is_sound = rw i.read.call.sound sound in
-          let same = links-same types v w (i.read.image now) i.read.call.size i.read.call.sizes in
-          subst (λ (l : Links). IsLastKey types l c.step_to.new.last) same (when-some _ found step c.in-Some.is (c.in_ok-found.ensures.known now)));
-      kept = λ sound.
-          (let now : IsTrue w.is_sound = rw i.read.call.sound sound in
-          stays-join c.args.holders.now.items xs ys (i.kept sound) (when-some _ found step c.in-Some.is (c.in_ok-found.ensures.kept now)));
-      chain = λ sound.
-          (let now : IsTrue w.is_sound = rw i.read.call.sound sound in
-          let same = links-same types v w (i.read.image now) i.read.call.size i.read.call.sizes in
-          let forward : step.forward ≡ m.forward next = subst (λ (l : Links). step.forward ≡ l.forward next) same (when-some _ found step c.in-Some.is (c.in_ok-found.ensures.forward now)) in
+    let stand : Stand = record { twin = step.twin; next = step.forward; near = c.behind.result } in
+    let on : Stand = c.in_ok-on.on in
+    let read : IsRead {T = ℕ} v (Ok 0) c.step_to.new.volume = read-ok 0 (reads-join (Ok found) i.read c.in_ok-found.ensures.read) in
+    let now : IsTrue v.is_sound → IsTrue w.is_sound = λ sound. rw i.read.call.sound sound in
+    let same : IsTrue v.is_sound → links_of types w ≡ m = λ sound. links-same types v w (i.read.image (now sound)) i.read.call.size i.read.call.sizes in
+    let at : IsTrue v.is_sound → step.twin.address ≡ next = λ sound. (when-some _ found step c.in-Some.is (c.in_ok-found.ensures.twin (now sound))).0 in
+    let goes : IsTrue v.is_sound → GoesOn types m ps c.args.code stand ys on zs = λ sound.
+    (let later : IsTrue c.step_to.new.volume.is_sound = rw read.call.sound sound in
+    subst (λ (l : Links). GoesOn types l ps c.args.code stand ys on zs) (links-same types v c.step_to.new.volume (read.image later) read.call.size read.call.sizes) (c.in_ok-on.ensures.goes later)) in
+    let standing : IsTrue v.is_sound → IsStanding types m ps ys c.args.parent c.args.code c.args.first stand = λ sound. record {
+      some = λ z. c.if-next-eq0.false (sym (at sound) ∙ z);
+      chain =
+          (let forward : step.forward ≡ m.forward next = subst (λ (l : Links). step.forward ≡ l.forward next) (same sound) (when-some _ found step c.in-Some.is (c.in_ok-found.ensures.forward (now sound))) in
           subst (λ (b : ℕ). IsOnChain types m ps ys c.args.parent c.args.code c.args.first b step.forward) (sym (at sound))
           (on-next types v ps (c.requires.places sound) c.args.parent c.args.code c.args.first (c.requires.parent sound) (c.requires.reached sound) xs ys before next holder step.forward c.if-next-eq0.false
-          (i.chain sound) c.holder_of-holder.ensures.parent c.holder_of-holder.ensures.twin (when-some _ found step c.in-Some.is (c.in_ok-found.ensures.kept now))
-          (when-some _ found step c.in-Some.is (c.in_ok-found.ensures.held now)) forward));
-      twin = λ sound not.
-          (let now : IsTrue w.is_sound = rw i.read.call.sound sound in
-          let same = links-same types v w (i.read.image now) i.read.call.size i.read.call.sizes in
-          subst (λ (l : Links). HasFront types l c.args.code step.twin) same (when-some _ found step c.in-Some.is (c.in_ok-found.ensures.twin now)).1);
+          (i.chain sound) c.holder_of-holder.ensures.parent c.holder_of-holder.ensures.twin (when-some _ found step c.in-Some.is (c.in_ok-found.ensures.kept (now sound)))
+          (when-some _ found step c.in-Some.is (c.in_ok-found.ensures.held (now sound))) forward));
+      twin = subst (λ (l : Links). HasFront types l c.args.code step.twin) (same sound) (when-some _ found step c.in-Some.is (c.in_ok-found.ensures.twin (now sound))).1;
+    } in
+    record {
+      read = read-ok 0 (reads-join (Ok on) read c.in_ok-on.ensures.read);
+      as_many = c.in_ok-on.ensures.as_many;
+      known = λ sound. subst (λ (l : Links). IsLastKey types l c.step_to.new.last) (same sound) (when-some _ found step c.in-Some.is (c.in_ok-found.ensures.known (now sound)));
+      kept = λ sound.
+          stays-join c.args.holders.now.items ys zs (stays-join c.args.holders.now.items xs ys (i.kept sound) (when-some _ found step c.in-Some.is (c.in_ok-found.ensures.kept (now sound)))) (goes sound).kept;
+      chain = λ sound. ((goes sound).stands c.args.parent c.args.first (c.requires.parent sound) (c.requires.reached sound) (standing sound)).chain;
+      twin = λ sound not. ((goes sound).stands c.args.parent c.args.first (c.requires.parent sound) (c.requires.reached sound) (standing sound)).twin;
       walked = λ sound in_hand walked.
-          (let now : IsTrue w.is_sound = rw i.read.call.sound sound in
-          let same = links-same types v w (i.read.image now) i.read.call.size i.read.call.sizes in
-          let step_on : (in_hand : ℕ) → IsWalkedSoFar types m ps before in_hand c.loop-turn.waiting.items xs → IsWalkedSoFar types m ps next in_hand c.step_to.new.waiting.items ys =
+          (let step_on : (in_hand : ℕ) → IsWalkedSoFar types m ps before in_hand c.loop-turn.waiting.items xs → IsWalkedSoFar types m ps next in_hand c.step_to.new.waiting.items ys =
           subst (λ (l : Links). (in_hand : ℕ) → IsWalkedSoFar types l ps before in_hand c.loop-turn.waiting.items xs → IsWalkedSoFar types l ps next in_hand c.step_to.new.waiting.items ys)
-          same (when-some _ found step c.in-Some.is (c.in_ok-found.ensures.walked now)) in
-          subst (λ (b : ℕ). IsWalkedSoFar types m ps b in_hand c.step_to.new.waiting.items ys) (sym (at sound)) (step_on in_hand (i.walked sound in_hand walked)));
+          (same sound) (when-some _ found step c.in-Some.is (c.in_ok-found.ensures.walked (now sound))) in
+          (goes sound).steps c.args.parent c.args.first (c.requires.parent sound) (c.requires.reached sound) (standing sound) c.step_to.new.waiting.items in_hand
+          (subst (λ (b : ℕ). IsWalkedSoFar types m ps b in_hand c.step_to.new.waiting.items ys) (sym (at sound)) (step_on in_hand (i.walked sound in_hand walked))));
     }
 
-pub returns-in-Some-clause-read : goal.returns-in-Some-clause-read
-returns-in-Some-clause-read g c = read-ok None (reads-join (Ok c.in_ok-found.found) c.loop-turn.invariant.read c.in_ok-found.ensures.read)
+pub returns-in_err-on-clause-read : goal.returns-in_err-on-clause-read
+returns-in_err-on-clause-read g c =
+    let read : IsRead {T = ℕ} c.args.volume.now (Ok 0) c.step_to.new.volume = read-ok 0 (reads-join (Ok c.in_ok-found.found) c.loop-turn.invariant.read c.in_ok-found.ensures.read) in
+    let p = err_from_is_err_and c.from_residual-in_err-on.result c.from_residual-in_err-on.ensures.1 in
+    subst (λ (r : Result (Option ℕ) Refused). IsRead {T = Option ℕ} c.args.volume.now r c.walk_beside.new.volume) (sym (p.1 ∙ ap Err p.2))
+    (read-err (reads-join (Err c.in_err-on.field-0.0) read c.in_err-on.ensures.read))
+
+pub returns-in_ok-on-clause-read : goal.returns-in_ok-on-clause-read
+returns-in_ok-on-clause-read g c =
+    let read : IsRead {T = ℕ} c.args.volume.now (Ok 0) c.step_to.new.volume = read-ok 0 (reads-join (Ok c.in_ok-found.found) c.loop-turn.invariant.read c.in_ok-found.ensures.read) in
+    read-ok None (reads-join (Ok c.in_ok-on.on) read c.in_ok-on.ensures.read)
 
 pub returns-in_err-found-clause-read : goal.returns-in_err-found-clause-read
 returns-in_err-found-clause-read g c =

@@ -2,9 +2,8 @@ use Rattle.std.proofs.Common.{◌≡◌, ◌≢◌, ℕ, IsTrue, Ok, length}
 use Rattle.hd_volume.specs.Calls.{IsRead}
 use Rattle.hd_image.specs.Records.{links_of}
 use Rattle.hd_check_pointers.specs.Keys.{IsLastKey}
-use Rattle.hd_check_walk.specs.Walks.{StaysHeld, IsWalkedSoFar}
+use Rattle.hd_check_walk.specs.Walks.{StaysHeld, IsWalkedSoFar, IsOnChain}
 use Rattle.hd_check_walk.specs.Twins.{HasFront}
-use Rattle.hd_check_walk.proofs.Chains.{IsOnChain}
 use Rattle.hd_check_walk.proofs.twins.walk_twins.Given as goal
 
 -- the walk is on the chain, and has come to a twin

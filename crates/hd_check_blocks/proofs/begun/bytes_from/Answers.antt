@@ -1,8 +1,8 @@
 use Rattle.std.proofs.Common.{◌≡◌, ◌+◌, ◌-◌, ℕ, List, length, take, drop, min, Some, refl, sym, ap, ◌∙◌, arith}
 use Rattle.std.proofs.lemmas.List.{take_all, length-drop}
 use Rattle.hd_block.specs.Sizes.{size_at}
-use Rattle.hd_check_index.proofs.DataBlocks.{read-there}
-use Rattle.hd_check_index.proofs.wrong_entries.bytes_from.Goals as goal
+use Rattle.hd_check_blocks.proofs.DataBlocks.{read-there}
+use Rattle.hd_check_blocks.proofs.begun.bytes_from.Goals as goal
 
 pub returns : goal.returns
 returns c = λ v n is begins formatted there.
