@@ -31,12 +31,12 @@ use Rattle.hd_index.proofs.Leaves.{known-leaf}
 -- ---- the last block
 
 -- the sequence set below some blocks of an index set is one
-sequence-is : (c : IndexBlocks) (l : ℕ) (ns : List ℕ) → IsIndexSet c l ns → IsIndexSet c 0 (sequence_set c l ns)
+pub sequence-is : (c : IndexBlocks) (l : ℕ) (ns : List ℕ) → IsIndexSet c l ns → IsIndexSet c 0 (sequence_set c l ns)
 sequence-is c zero ns s = s
 sequence-is c (suc l) ns s = sequence-is c l (named (across c ns)) s.2
 
 -- its blocks are those of level 0
-among-sequence : (c : IndexBlocks) (l n : ℕ) (ns : List ℕ) → IsIndexSet c l ns → c.level n ≡ Some 0 → IsAmong n (blocks_down c l ns) → IsAmong n (sequence_set c l ns)
+pub among-sequence : (c : IndexBlocks) (l n : ℕ) (ns : List ℕ) → IsIndexSet c l ns → c.level n ≡ Some 0 → IsAmong n (blocks_down c l ns) → IsAmong n (sequence_set c l ns)
 among-sequence c zero n ns s low among = among
 among-sequence c (suc l) n ns s low among =
     elim (among-parts n ns (blocks_down c l (named (across c ns))) among) [
@@ -61,11 +61,11 @@ end-of next start n (m ∷ ns) linked none (inr among) =
 -- ---- a key that leads to it
 
 -- The first of some entries is below a key.
-record HasLow (key : List ℕ) (es : List Entry) : Type 0 where
-  entry : Entry
-  rest : List Entry
-  is : es ≡ entry ∷ rest
-  less : key_less entry.key key ≡ true
+pub record HasLow (key : List ℕ) (es : List Entry) : Type 0 where
+  pub entry : Entry
+  pub rest : List Entry
+  pub is : es ≡ entry ∷ rest
+  pub less : key_less entry.key key ≡ true
 
 -- so it is where the greatest key below it is the same whatever is given for none
 low-first : (key g : List ℕ) (es : List Entry) → ((other : List ℕ) → g ≡ greatest_below other key es) → HasLow key es
@@ -77,17 +77,17 @@ low-first key g (e ∷ es) all = by-test (key_less e.key key) refl all
     by-test false is all = absurd (let a : g ≡ [] = all [] in let b : g ≡ 0 ∷ [] = all (0 ∷ []) in cc)
 
 -- then all that stands before them is below it
-below-before : (c : IndexBlocks) (key : List ℕ) (before : List ℕ) (n : ℕ) → IsIndexSet c 0 (before ++ (n ∷ [])) → HasLow key (c.entries n) → AreBelow key (across c before)
-below-before c key before n set low =
+pub below-before : (c : IndexBlocks) (key : List ℕ) (before : List ℕ) (n : ℕ) (behind : List ℕ) → IsIndexSet c 0 (before ++ (n ∷ behind)) → HasLow key (c.entries n) → AreBelow key (across c before)
+below-before c key before n behind set low =
     let A : List Entry → Type 0 = λ t. keys_ascend t ≡ true in
-    let B : List Entry → Type 0 = λ t. keys_ascend (across c before ++ (t ++ [])) ≡ true in
-    let ascend : keys_ascend (across c before ++ (low.entry ∷ (low.rest ++ []))) ≡ true = subst B low.is (subst A (across-append c before (n ∷ [])) set.1) in
-    below-less low.entry.key key (across c before) (ascend-below (across c before) low.entry (low.rest ++ []) ascend) low.less
+    let B : List Entry → Type 0 = λ t. keys_ascend (across c before ++ (t ++ across c behind)) ≡ true in
+    let ascend : keys_ascend (across c before ++ (low.entry ∷ (low.rest ++ across c behind))) ≡ true = subst B low.is (subst A (across-append c before (n ∷ behind)) set.1) in
+    below-less low.entry.key key (across c before) (ascend-below (across c before) low.entry (low.rest ++ across c behind) ascend) low.less
 
 -- Where a walk down by a key ends at a block.
-record HasStand (k : ℕ) (v : VolumeState) (key : List ℕ) (n : ℕ) : Type 0 where
-  left : ℕ
-  stand : IsStand k v key 0 (record { left = left; block = n })
+pub record HasStand (k : ℕ) (v : VolumeState) (key : List ℕ) (n : ℕ) : Type 0 where
+  pub left : ℕ
+  pub stand : IsStand k v key 0 (record { left = left; block = n })
 
 -- a key that is not the least leads to the last block, if the first one there is below it
 last-stand : (k : ℕ) (v : VolumeState) (key : List ℕ) (n : ℕ) → HasIndexSet k v → IsKind v 2 n → slice_index (block_at v n) 3 ≡ 0 → next_in v n ≡ 0
@@ -105,7 +105,7 @@ last-stand k v key n x kind level none low =
       stand = record {
         before = end.before;
         behind = [];
-        around = record { set = set; below = below-before c key end.before n set low; above = refl };
+        around = record { set = set; below = below-before c key end.before n [] set low; above = refl };
         left_is = refl;
         whole = end.whole ∙ sym (later-blocks k v x);
       };
@@ -129,20 +129,23 @@ last-greatest k v key n found x kind level none some own =
     let t : List ℕ = cond (s.left == 0) key (last_key key (entries_in k (block_at v s.left))) in
     (some-any k found key t some ∙ own t ∙ sym (stand-greatest k v key (record { left = s.left; block = n }) x s.stand), known-leaf k v key (record { left = s.left; block = n }) g x s.stand all)
 
+-- the bytes of an index block are in order
+pub known-bytes : (k : ℕ) (v : VolumeState) (n : ℕ) (bytes : List ℕ) → HasIndexSet k v → IsKind v 2 n → bytes ≡ block_at v n → CountFits k bytes × (keys_ascend (entries_in k bytes) ≡ true)
+known-bytes k v n bytes x kind is =
+    let right = (index-blocks-right k v n x kind).1 in
+    let C : List ℕ → Type 0 = λ b. CountFits k b in
+    let len : length (block_at v n) ≡ v.size = length-block v.size n v.image kind.there in
+    let R : ℕ → Type 0 = λ s. number_at 2 (block_at v n) 4 ≤ entry_room k s in
+    (subst C (sym is) (subst R (sym len) right.count), ap (λ (b : List ℕ). keys_ascend (entries_in k b)) is ∙ right.ascend)
+
 -- so is what is found in the bytes of a block, where they say that it is the last
 pub last-known : (k : ℕ) (v : VolumeState) (key : List ℕ) (n : ℕ) (found : Option (List ℕ)) (bytes : List ℕ) → HasIndexSet k v → IsKind v 2 n → bytes ≡ block_at v n → is_some found ≡ true
     → slice_index bytes 3 ≡ 0 → number_at 4 bytes 8 ≡ 0 → IfInOrder k bytes (IsGreatestOf k found key (entries_in k bytes)) → IsGreatestBelow k v key found × IsKnownLeaf k v (lower_key k v key) n
 last-known k v key n found bytes x kind is some level none own =
-    let right = (index-blocks-right k v n x kind).1 in
     let back = sym is in
-    let fits : CountFits k bytes =
-    (let C : List ℕ → Type 0 = λ b. CountFits k b in
-    let len : length (block_at v n) ≡ v.size = length-block v.size n v.image kind.there in
-    let R : ℕ → Type 0 = λ s. number_at 2 (block_at v n) 4 ≤ entry_room k s in
-    subst C back (subst R (sym len) right.count)) in
-    let ascend : keys_ascend (entries_in k bytes) ≡ true = ap (λ (b : List ℕ). keys_ascend (entries_in k b)) is ∙ right.ascend in
+    let order = known-bytes k v n bytes x kind is in
     let G : List ℕ → Type 0 = λ b. IsGreatestOf k found key (entries_in k b) in
-    last-greatest k v key n found x kind (ap (λ (b : List ℕ). slice_index b 3) back ∙ level) (ap (λ (b : List ℕ). number_at 4 b 8) back ∙ none) some (subst G is (own fits ascend))
+    last-greatest k v key n found x kind (ap (λ (b : List ℕ). slice_index b 3) back ∙ level) (ap (λ (b : List ℕ). number_at 4 b 8) back ∙ none) some (subst G is (own order.0 order.1))
 
 -- a block behind block 0 that the volume's table calls an index block is one
 pub told-kind : (v : VolumeState) (n : ℕ) → HasHeader v.size v.image → 128 ≤ v.size → n ≢ 0 → HasBlock v.size v.image n → (0 < n → n < MOST_BLOCKS → HasBlock v.size v.image n → 2 ≡ kind_of (block_at v n)) → IsKind v 2 n

@@ -31,12 +31,12 @@ use Rattle.hd_index.proofs.Standing.{stand-blocks, stand-greatest}
 -- ---- the entry of a key
 
 -- One of the entries has this key.
-record IsKeyIn (key : List ℕ) (es : List Entry) : Type 0 where
-  front : List Entry
-  entry : Entry
-  back : List Entry
-  is : es ≡ front ++ (entry ∷ back)
-  key_is : entry.key ≡ key
+pub record IsKeyIn (key : List ℕ) (es : List Entry) : Type 0 where
+  pub front : List Entry
+  pub entry : Entry
+  pub back : List Entry
+  pub is : es ≡ front ++ (entry ∷ back)
+  pub key_is : entry.key ≡ key
 
 -- the greatest key below another is that of an entry, or what is given for none
 greatest-in : (other key : List ℕ) (es : List Entry) → (greatest_below other key es ≡ other) ⊎ IsKeyIn (greatest_below other key es) es
@@ -105,7 +105,7 @@ among-parts n m (x ∷ left) right (inl e) = inl (inl e)
 among-parts n m (x ∷ left) right (inr a) = elim (among-parts n m left right a) [ inl l ↦ inl (inr l) | inr r ↦ inr r ]
 
 -- a block with an entry of a key is the one about it
-own-block : (c : IndexBlocks) (key : List ℕ) (left : List ℕ) (m : ℕ) (right : List ℕ) (n : ℕ) → IsAround c key 0 left m right → IsAmong n (left ++ (m ∷ right)) → IsKeyIn key (c.entries n) → n ≡ m
+pub own-block : (c : IndexBlocks) (key : List ℕ) (left : List ℕ) (m : ℕ) (right : List ℕ) (n : ℕ) → IsAround c key 0 left m right → IsAmong n (left ++ (m ∷ right)) → IsKeyIn key (c.entries n) → n ≡ m
 own-block c key left m right n a among k = elim (among-parts n m left right among) [
   | inl l ↦ absurd (none-below key (across c left) a.below (key-across c key n left l k))
   | inr rest ↦ elim rest [
@@ -116,7 +116,7 @@ own-block c key left m right n a among k = elim (among-parts n m left right amon
 ]
 
 -- where there is no top there is no sequence set
-sequence-none : (c : IndexBlocks) (l : ℕ) → sequence_set c l [] ≡ []
+pub sequence-none : (c : IndexBlocks) (l : ℕ) → sequence_set c l [] ≡ []
 sequence-none c zero = refl
 sequence-none c (suc l) = sequence-none c l
 
@@ -125,11 +125,11 @@ some-not [] y ys e = cc
 some-not (x ∷ xs) y ys e = cc
 
 -- where there is no top a key leads to no block
-leaf-none : (k : ℕ) (v : VolumeState) (key : List ℕ) → (header_of v.image).top ≡ 0 → leaf_at k v key ≡ 0
+pub leaf-none : (k : ℕ) (v : VolumeState) (key : List ℕ) → (header_of v.image).top ≡ 0 → leaf_at k v key ≡ 0
 leaf-none k v key none = ap (λ (b : Bool). cond b 0 (leaf_of (index_blocks k v) key (top_level v) (header_of v.image).top)) (eq-eqb (header_of v.image).top 0 none)
 
 -- else it leads down from the top
-leaf-some : (k : ℕ) (v : VolumeState) (key : List ℕ) → 0 < (header_of v.image).top → leaf_at k v key ≡ leaf_of (index_blocks k v) key (top_level v) (header_of v.image).top
+pub leaf-some : (k : ℕ) (v : VolumeState) (key : List ℕ) → 0 < (header_of v.image).top → leaf_at k v key ≡ leaf_of (index_blocks k v) key (top_level v) (header_of v.image).top
 leaf-some k v key some = ap (λ (b : Bool). cond b 0 (leaf_of (index_blocks k v) key (top_level v) (header_of v.image).top)) (ne_eqb (header_of v.image).top 0 (λ e. (let l = some in omega arith)))
 
 -- the block where a walk ended, in which a key stands

@@ -31,3 +31,5 @@ pub mod Leading
 pub mod Addressing
 pub mod NeedLemmas
 pub mod ChangeLemmas
+pub mod Nearness
+pub mod Spares

@@ -165,7 +165,7 @@ some-left [] e [] es is more = λ none. (let l : length es ≡ 1 = ap (λ (t : L
 some-left [] e (y ∷ ys) es is more = λ none. (let z : y ∷ ys ≡ [] = none in cc)
 some-left (x ∷ xs) e ys es is more = λ none. (let z : x ∷ (xs ++ ys) ≡ [] = none in cc)
 
-same-key : (x y : List ℕ) → bytes_eq x y ≡ true → x ≡ y
+pub same-key : (x y : List ℕ) → bytes_eq x y ≡ true → x ≡ y
 same-key x y h = (bytes_eq-Decides x y).0 h
 
 -- the rest of a volume of which a block has other entries

@@ -13,3 +13,4 @@ pub mod Greatest
 pub mod Removals
 pub mod Comings
 pub mod Behind
+pub mod Nearness

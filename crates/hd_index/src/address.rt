@@ -1,11 +1,11 @@
-ghost use Rattle.std.specs.Prelude.{◌≡◌, ◌≤◌, ◌<◌, None, length, IsTrue, IfOk, IfSome, OnOk};
+ghost use Rattle.std.specs.Prelude.{◌≡◌, ◌≢◌, ◌≤◌, ◌<◌, None, length, IsTrue, IfOk, IfSome, OnOk};
 ghost use Rattle.hd_dbd.specs.Refusals.{OnlyDevice};
 ghost use Rattle.hd_volume.specs.Headers.{header_of};
 ghost use Rattle.hd_volume.specs.Rooms.{spare};
 ghost use Rattle.hd_volume.specs.Volumes.{block_at};
 ghost use Rattle.hd_volume.specs.Calls.{IsCall, IsRead};
 ghost use Rattle.hd_volume.specs.Entries.{entries_in};
-ghost use Rattle.hd_index_blocks.specs.Fields.{entry_place};
+ghost use Rattle.hd_index_blocks.specs.Fields.{below_count, entry_place};
 ghost use Rattle.hd_index_blocks.specs.Searches.{IfInOrder};
 ghost use Rattle.hd_index_blocks.specs.Maps.{address_of, with_address};
 ghost use Rattle.hd_index_blocks.specs.IndexSets.{HasIndexSet};
@@ -74,9 +74,11 @@ fn set_key<S: BlockStore>(
 }
 
 /// The place of the entry of a key in the bytes of a block, if it has one.
-fn place_in(block: &IndexBlock, key: &[u8]) -> Option<Place>
+pub fn place_in(block: &IndexBlock, key: &[u8]) -> Option<Place>
     ensures none { IfInOrder block.now.key_length block.now.bytes.now (result ≡ None → address_of key.now (entries_in block.now.key_length block.now.bytes.now) ≡ None) }
     ensures place { IfSome result (λ place. IfInOrder block.now.key_length block.now.bytes.now (IsPlaceOf key.now (entries_in block.now.key_length block.now.bytes.now) place)) }
+    ensures index { IfSome result (λ place. IfInOrder block.now.key_length block.now.bytes.now (place.index ≡ below_count key.now (entries_in block.now.key_length block.now.bytes.now))) }
+    ensures there { IfSome result (λ place. IfInOrder block.now.key_length block.now.bytes.now (address_of key.now (entries_in block.now.key_length block.now.bytes.now) ≢ None)) }
     ensures within { IfSome result (λ place. place.index < place.count) }
     ensures small { IfSome result (λ place. place.count ≤ 65535) }
     ensures fits { IfSome result (λ place. entry_place block.now.key_length place.count ≤ length block.now.bytes.now) }

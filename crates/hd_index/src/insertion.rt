@@ -19,6 +19,7 @@ use crate::descend::MOST_LEVELS;
 use crate::enter::enter_key;
 use crate::first::insert_first;
 use crate::greatest::greatest;
+use crate::near::{enter_near, near};
 use crate::need::{key_or, needed_at};
 use crate::room::make_room;
 use crate::search::is_above_all;
@@ -79,6 +80,33 @@ fn insert_key<S: BlockStore>(
     if volume.top() == 0 {
         return insert_first(volume, key, address);
     }
+    let noted = volume.noted_block();
+    let Some(place) = near(volume, noted, key)? else {
+        return insert_below(volume, key_length, key, address);
+    };
+    enter_near(volume, noted, place, key, address)
+}
+
+/// Enters a new key where the greatest key below it leads, or it itself where it is the least.
+fn insert_below<S: BlockStore>(
+    volume: &mut Volume<S>,
+    key_length: usize,
+    key: &[u8],
+    address: u32,
+) -> Result<(), Refused>
+    requires index { IsTrue volume.old.is_sound → HasIndexSet key_length volume.old }
+    requires some { IsTrue volume.old.is_sound → 0 < (header_of volume.old.image).top }
+    requires new { IsTrue volume.old.is_sound → address_of key.now (index_entries key_length volume.old) ≡ None }
+    requires whole { length key.now ≡ key_length }
+    requires short { key_length ≤ 255 }
+    requires three { entry_place key_length 3 ≤ volume.old.size }
+    ensures call { IsCall volume.old result volume.new }
+    ensures changed { OnOk result (IsTrue volume.old.is_sound → IsKeyEntered key_length volume.old key.now address (set_blocks_needed key_length volume.old key.now) volume.new) }
+    ensures kept { IfErr result (λ _. IsTrue volume.new.is_sound → volume.new.image ≡ volume.old.image) }
+    ensures refused { IfErr result (λ e. IsTrue volume.old.is_sound → IsRefusedFor (set_blocks_needed key_length volume.old key.now) volume.old e) }
+    ensures refusal { OnlyRoomOrDevice result }
+    ensures room { IsTrue volume.old.is_sound → IsTrue volume.new.is_sound → volume.old.room ≤ volume.new.room + set_blocks_needed key_length volume.old key.now }
+{
     let mut found = [0; 255];
     let below = greatest(volume, key_length, key, &mut found)?;
     let by = key_or(below.is_some, &found, key_length, key);

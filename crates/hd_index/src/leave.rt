@@ -19,6 +19,7 @@ ghost use Rattle.hd_index.specs.Removals.{IsThin, IsThinBelow, IsOnWayIn, IsWay}
 use crate::descend::MOST_LEVELS;
 use crate::edit::remove_entry;
 use crate::look::{has_block, look};
+use crate::near::spare;
 use crate::stand::{Stand, step_down};
 use crate::unlink::drop_way;
 use crate::way::{Fork, Way, way_down};
@@ -44,6 +45,27 @@ pub fn remove<S: BlockStore>(volume: &mut Volume<S>, dbd: &Dbd, key: &[u8]) -> R
 
 /// Takes the root of a key out of an index for keys of a length.
 fn remove_key<S: BlockStore>(
+    volume: &mut Volume<S>,
+    key_length: usize,
+    key: &[u8],
+) -> Result<(), Refused>
+    requires index { IsTrue volume.old.is_sound → HasIndexSet key_length volume.old }
+    requires short { key_length ≤ 255 }
+    ensures call { IsCall volume.old result volume.new }
+    ensures changed { OnOk result (IsTrue volume.old.is_sound → IsKeyRemoved key_length volume.old key.now volume.new) }
+    ensures refusal { OnlyDevice result }
+    ensures room { volume.new.room ≡ volume.old.room }
+{
+    let _size = volume.block_size();
+    let noted = volume.noted_block();
+    let Some(place) = spare(volume, key_length, noted, key)? else {
+        return remove_down(volume, key_length, key);
+    };
+    remove_entry(volume, key_length, noted, place.index, place.count)
+}
+
+/// The same, by a walk down from the top.
+fn remove_down<S: BlockStore>(
     volume: &mut Volume<S>,
     key_length: usize,
     key: &[u8],

@@ -16,6 +16,7 @@ mod greatest;
 mod insertion;
 mod leave;
 mod look;
+mod near;
 mod need;
 mod room;
 mod search;

@@ -65,6 +65,7 @@ fn look_up<S: BlockStore>(
         return Ok(no_sight());
     }
     let sight = look(volume, key_length, n, key)?;
+    volume.note_block(n);
     Ok(sight)
 }
 

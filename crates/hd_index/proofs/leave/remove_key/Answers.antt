@@ -1,114 +1,89 @@
-use Rattle.std.proofs.Common.{◌≡◌, ◌-◌, ◌<◌, ℕ, IsTrue, refl, sym, ap, ◌∙◌, arith}
-use Rattle.hd_volume.specs.Headers.{header_of}
+use Rattle.std.proofs.Common.{◌≡◌, ℕ, List, Option, IsTrue, IfSome, sym, ap, subst, ◌∙◌, arith}
+use Rattle.hd_bytes.specs.Numbers.{number_at}
+use Rattle.hd_volume.specs.Volumes.{block_at}
 use Rattle.hd_volume.proofs.JoinLemmas.{read-one}
-use Rattle.hd_index_blocks.specs.Maps.{address_of, without_key}
-use Rattle.hd_index_blocks.specs.IndexSets.{top_level, index_entries}
-use Rattle.hd_index.proofs.CallLemmas.{on-ok-map}
-use Rattle.hd_index.specs.declared.stand.Stand.{Stand}
+use Rattle.hd_index_blocks.specs.Maps.{without_key}
+use Rattle.hd_index_blocks.specs.IndexSets.{index_entries, HasIndexSet}
+use Rattle.hd_index.specs.declared.address.Place.{Place}
+use Rattle.hd_index.specs.Edits.{IsEntryRemoved}
+use Rattle.hd_index.specs.Nearness.{IsSpare}
 use Rattle.hd_index.specs.Changes.{IsChanged}
-use Rattle.hd_index.proofs.Searching.{set-same, order-same}
-use Rattle.hd_index.proofs.Forks.{on-order, way-one}
-use Rattle.hd_index.proofs.Trims.{unchanged, removed-read, on-start, one-joined, read-address, none-of, some-of}
+use Rattle.hd_index.proofs.CallLemmas.{on-ok-map}
+use Rattle.hd_index.proofs.Searching.{set-same}
+use Rattle.hd_index.proofs.Comings.{known-block}
+use Rattle.hd_index.proofs.Trims.{removed-read}
+use Rattle.hd_index.proofs.Spares.{spare-same, spare-removed}
 use Rattle.hd_index.proofs.leave.remove_key.Goals as goal
 
-pub returns-then-is_none-clause-changed : goal.returns-then-is_none-clause-changed
-returns-then-is_none-clause-changed g c sound =
+pub remove_down-requires-clause-index : goal.remove_down-requires-clause-index
+remove_down-requires-clause-index g c now =
+    let read = c.in_ok-place.ensures.read in
+    let sound : IsTrue c.args.volume.now.is_sound = rw (← read.call.sound) now in
+    (set-same c.args.key_length c.args.volume.now c.spare.new.volume (read-one read now) (c.requires.index sound)).0
+
+pub returns-in_default-clause-changed : goal.returns-in_default-clause-changed
+returns-in_default-clause-changed g c =
     let u = c.args.volume.now in
-    let v = c.way_down.new.volume in
-    let w = c.look.new.volume in
+    let v = c.spare.new.volume in
+    let w = c.remove_down.new.volume in
     let k : ℕ = c.args.key_length in
     let key = c.args.key.now in
-    let x = c.requires.index sound in
-    let t : ℕ = (header_of u.image).top in
-    let top : c.top-top.result ≡ t = c.top-top.ensures sound x.formatted.header.first in
-    let height : c.height-height.result ≡ (header_of u.image).height = c.height-height.ensures sound x.formatted.header.first in
-    let levels : c.height-height.result - 1 ≡ top_level u = omega arith in
-    let some : 0 < t = (let f = c.if-top-eq0.false in omega arith) in
-    let start : Stand = record { left = 0; block = c.top-top.result } in
-    let way = c.in_ok-way.ensures.way sound x (on-start k u key (c.height-height.result - 1) start x some refl top levels) in
-    let read = c.in_ok-way.ensures.read in
+    let read = c.in_ok-place.ensures.read in
+    on-ok-map c.remove_down.result
+    (λ (changed : IsTrue v.is_sound → IsChanged k v (without_key key (index_entries k v)) 0 w) (sound : IsTrue u.is_sound).
     let now : IsTrue v.is_sound = rw read.call.sound sound in
-    let last : IsTrue w.is_sound = rw c.in_ok-sight.ensures.read.call.sound now in
-    let one = read-one read now in
-    let next = read-one c.in_ok-sight.ensures.read last in
-    let leaf : Stand = c.in_ok-way.way.leaf in
-    let order = order-same k u v leaf.block one.same.size one.image (on-order k u key 0 leaf x way.leaf) in
-    let found = read-address k u v key leaf c.in_ok-sight.sight.equal one x way.leaf (c.in_ok-sight.ensures.equal now order) in
-    unchanged k u w key (one-joined u v w one next) x (found ∙ none-of c.in_ok-sight.sight.equal c.if-is_none.ensures)
+    removed-read k u v w key (read-one read now) (c.requires.index sound) (changed now))
+    c.remove_down.ensures.changed
 
-pub remove_on-requires-clause-index : goal.remove_on-requires-clause-index
-remove_on-requires-clause-index g c last =
-    let u = c.args.volume.now in
-    let v = c.way_down.new.volume in
-    let w = c.look.new.volume in
-    let k : ℕ = c.args.key_length in
-    let read = c.in_ok-way.ensures.read in
-    let now : IsTrue v.is_sound = rw (← c.in_ok-sight.ensures.read.call.sound) last in
-    let sound : IsTrue u.is_sound = rw (← read.call.sound) now in
-    let one = read-one read now in
-    let next = read-one c.in_ok-sight.ensures.read last in
-    (set-same k u w (one-joined u v w one next) (c.requires.index sound)).0
+pub remove_entry-requires-clause-formatted : goal.remove_entry-requires-clause-formatted
+remove_entry-requires-clause-formatted g c now =
+    let read = c.in_ok-place.ensures.read in
+    let sound : IsTrue c.args.volume.now.is_sound = rw (← read.call.sound) now in
+    (set-same c.args.key_length c.args.volume.now c.spare.new.volume (read-one read now) (c.requires.index sound)).0.formatted
 
-pub remove_on-requires-clause-way : goal.remove_on-requires-clause-way
-remove_on-requires-clause-way g c last =
+pub remove_entry-requires-clause-block : goal.remove_entry-requires-clause-block
+remove_entry-requires-clause-block g c now =
     let u = c.args.volume.now in
-    let v = c.way_down.new.volume in
-    let w = c.look.new.volume in
+    let v = c.spare.new.volume in
     let k : ℕ = c.args.key_length in
     let key = c.args.key.now in
-    let read = c.in_ok-way.ensures.read in
-    let now : IsTrue v.is_sound = rw (← c.in_ok-sight.ensures.read.call.sound) last in
+    let n : ℕ = c.noted_block-noted.result in
+    let read = c.in_ok-place.ensures.read in
     let sound : IsTrue u.is_sound = rw (← read.call.sound) now in
-    let x = c.requires.index sound in
-    let t : ℕ = (header_of u.image).top in
-    let top : c.top-top.result ≡ t = c.top-top.ensures sound x.formatted.header.first in
-    let height : c.height-height.result ≡ (header_of u.image).height = c.height-height.ensures sound x.formatted.header.first in
-    let levels : c.height-height.result - 1 ≡ top_level u = omega arith in
-    let some : 0 < t = (let f = c.if-top-eq0.false in omega arith) in
-    let start : Stand = record { left = 0; block = c.top-top.result } in
-    let way = c.in_ok-way.ensures.way sound x (on-start k u key (c.height-height.result - 1) start x some refl top levels) in
     let one = read-one read now in
-    let next = read-one c.in_ok-sight.ensures.read last in
-    way-one k u w key (c.height-height.result - 1) c.top-top.result c.in_ok-way.way (one-joined u v w one next) way
+    let x = c.requires.index sound in
+    let F : Option Place → Type 0 = λ found. IfSome found (λ place. IsTrue u.is_sound → HasIndexSet k u → IsSpare k u key n place) in
+    let h = spare-same k u v key n c.in-Some.place one (subst F c.in-Some.is c.in_ok-place.ensures.spare sound x) in
+    known-block k v n (set-same k u v one x).0 h.0
 
-pub remove_on-requires-clause-there : goal.remove_on-requires-clause-there
-remove_on-requires-clause-there g c last none =
+pub remove_entry-requires-clause-count : goal.remove_entry-requires-clause-count
+remove_entry-requires-clause-count g c now =
     let u = c.args.volume.now in
-    let v = c.way_down.new.volume in
-    let w = c.look.new.volume in
+    let v = c.spare.new.volume in
     let k : ℕ = c.args.key_length in
     let key = c.args.key.now in
-    let read = c.in_ok-way.ensures.read in
-    let now : IsTrue v.is_sound = rw (← c.in_ok-sight.ensures.read.call.sound) last in
+    let n : ℕ = c.noted_block-noted.result in
+    let read = c.in_ok-place.ensures.read in
     let sound : IsTrue u.is_sound = rw (← read.call.sound) now in
-    let x = c.requires.index sound in
-    let t : ℕ = (header_of u.image).top in
-    let top : c.top-top.result ≡ t = c.top-top.ensures sound x.formatted.header.first in
-    let height : c.height-height.result ≡ (header_of u.image).height = c.height-height.ensures sound x.formatted.header.first in
-    let levels : c.height-height.result - 1 ≡ top_level u = omega arith in
-    let some : 0 < t = (let f = c.if-top-eq0.false in omega arith) in
-    let start : Stand = record { left = 0; block = c.top-top.result } in
-    let way = c.in_ok-way.ensures.way sound x (on-start k u key (c.height-height.result - 1) start x some refl top levels) in
-    let one = read-one read now in
-    let next = read-one c.in_ok-sight.ensures.read last in
-    let leaf : Stand = c.in_ok-way.way.leaf in
-    let order = order-same k u v leaf.block one.same.size one.image (on-order k u key 0 leaf x way.leaf) in
-    let found = read-address k u v key leaf c.in_ok-sight.sight.equal one x way.leaf (c.in_ok-sight.ensures.equal now order) in
-    let same = set-same k u w (one-joined u v w one next) x in
-    some-of c.in_ok-sight.sight.equal c.if-is_none.ensures (sym found ∙ ap (address_of key) (sym same.1) ∙ none)
+    let F : Option Place → Type 0 = λ found. IfSome found (λ place. IsTrue u.is_sound → HasIndexSet k u → IsSpare k u key n place) in
+    let h = spare-same k u v key n c.in-Some.place (read-one read now) (subst F c.in-Some.is c.in_ok-place.ensures.spare sound (c.requires.index sound)) in
+    sym h.1.count_is
 
 pub returns-clause-changed : goal.returns-clause-changed
 returns-clause-changed g c =
     let u = c.args.volume.now in
-    let v = c.way_down.new.volume in
-    let w = c.look.new.volume in
-    let z = c.remove_on.new.volume in
+    let v = c.spare.new.volume in
+    let w = c.remove_entry.new.volume in
     let k : ℕ = c.args.key_length in
     let key = c.args.key.now in
-    let read = c.in_ok-way.ensures.read in
-    on-ok-map c.remove_on.result
-    (λ (changed : IsTrue w.is_sound → IsChanged k w (without_key key (index_entries k w)) 0 z) (sound : IsTrue u.is_sound).
+    let n : ℕ = c.noted_block-noted.result in
+    let read = c.in_ok-place.ensures.read in
+    on-ok-map c.remove_entry.result
+    (λ (removed : IsTrue v.is_sound → IsEntryRemoved k v n c.in-Some.place.index w) (sound : IsTrue u.is_sound).
     let now : IsTrue v.is_sound = rw read.call.sound sound in
-    let last : IsTrue w.is_sound = rw c.in_ok-sight.ensures.read.call.sound now in
-    removed-read k u w z key (one-joined u v w (read-one read now) (read-one c.in_ok-sight.ensures.read last)) (c.requires.index sound) (changed last))
-    c.remove_on.ensures.changed
+    let one = read-one read now in
+    let x = c.requires.index sound in
+    let F : Option Place → Type 0 = λ found. IfSome found (λ place. IsTrue u.is_sound → HasIndexSet k u → IsSpare k u key n place) in
+    let h = spare-same k u v key n c.in-Some.place one (subst F c.in-Some.is c.in_ok-place.ensures.spare sound x) in
+    removed-read k u v w key one x (spare-removed k v w key n c.in-Some.place (set-same k u v one x).0 h (removed now)))
+    c.remove_entry.ensures.taken
