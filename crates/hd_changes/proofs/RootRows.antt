@@ -1,6 +1,6 @@
 -- The roots of a held forest as rows, and as entries of the index.
 use Rattle.std.proofs.Common.{◌≡◌, ℕ, ◌+◌, ◌-◌, ◌<◌, List, [], ◌∷◌, ◌++◌, length, Bool, true, false, ◌==◌, Option, Some, None, IsTrue, refl, sym, ap, subst, ◌∙◌, arith, inl, inr}
-use Rattle.std.specs.Prelude.{bytes_eq, option_map, map, not, ◌&&◌}
+use Rattle.std.specs.Prelude.{bytes_eq, is_some, option_map, map, not, ◌&&◌}
 use Rattle.std.specs.Option.{option_map_or}
 use Rattle.std.proofs.lemmas.Bool.{not-true, and_parts, and_from, cases_Bool, cases_lt, cond-true, eq-eqb, eqb-true, false≢true}
 use Rattle.std.proofs.lemmas.Slice.Eq.{bytes_eq-Decides}
@@ -35,7 +35,7 @@ use Rattle.hd_image.proofs.RootEntries.{root-code, unique-less, roots-ascend, na
 use Rattle.hd_index.specs.Maps.{address_of, address_from}
 use Rattle.hd_index_blocks.proofs.Keys.{less-other}
 use Rattle.hd_changes.specs.Roots.{is_root, key_at, is_root_with, is_root_from, first_row, address_of_first}
-use Rattle.hd_changes.specs.Found.{RootsAreOfTheFirstType, RootsStandAlone, RootsAscend, IndexAnswersRoots, FirstRootsFollowLesser}
+use Rattle.hd_changes.specs.Found.{RootsAreOfTheFirstType, RootsStandAlone, RootsAscend, IndexAnswersRoots, IndexTellsOfKeys, IsToldRoot, IndexTellsOfRoots, FirstRootsFollowLesser}
 use Rattle.hd_changes.proofs.EntriesFound.{HasKey, key-found, key-missing, IsLeast, least-found, all-lesser}
 
 -- ---- the first row that passes
@@ -252,6 +252,26 @@ module _ (d : Database) (v : VolumeState) (f : Forest Placed) (H : HoldsPlaced d
       ap (λ (x : ℕ). Some x) (sym (R.address ∙ K.address))
       ∙ ap (option_map (λ i. address_at f i)) (sym (first-is rows (is_root_from d.types rows key) R.row R.within (and_from _ _ R.root (ap not from)) none))
 
+  -- the first root whose key is not below a key has it just where some root has it
+  first-has : (key : List ℕ) (i : ℕ) → first_row rows (is_root_from d.types rows key) ≡ Some i → (o : Option ℕ) → first_row rows (is_root_with d.types rows key) ≡ o
+      → is_some (option_map (λ i. address_at f i) o) ≡ bytes_eq (key_at d.types rows i) key
+  first-has key i is None none =
+      let F = (follow-lesser d.types rows key).0 i is in
+      let fails : (is_root rows i && bytes_eq (key_at d.types rows i) key) ≡ false = least_no (is_root_with d.types rows key) (length rows - 0) 0 none i (omega arith) (omega (arith, F.0)) in
+      sym (ap (λ (r : Bool). r && bytes_eq (key_at d.types rows i) key) (sym F.1) ∙ fails)
+  first-has key i is (Some j) some =
+      let F = (follow-lesser d.types rows key).0 i is in
+      let J = least_some (is_root_with d.types rows key) (length rows - 0) 0 j some in
+      let both = and_parts (is_root rows j) (bytes_eq (key_at d.types rows j) key) J.2 in
+      let same : key_at d.types rows j ≡ key = (bytes_eq-Decides (key_at d.types rows j) key).0 both.1 in
+      elim (cases_lt j i) [
+        | inl before ↦ absurd (false≢true (sym (less-other (key_at d.types rows j) key (F.3 j before both.0)) ∙ both.1))
+        | inr behind ↦ elim (cases_lt i j) [
+          | inl later ↦ absurd (false≢true (sym F.2 ∙ ap (key_less (key_at d.types rows i)) (sym same) ∙ keys-rise i j F.1 both.0 later (omega (arith, J.1))))
+          | inr one ↦ sym (ap (λ (n : ℕ). bytes_eq (key_at d.types rows n) key) (let e : i ≡ j = omega arith in e) ∙ both.1)
+        ]
+      ]
+
 pub roots-first : RootsAreOfTheFirstType
 roots-first d v f i H within = (level-one d v f H i within, top-root d v f H i within)
 
@@ -266,3 +286,17 @@ index-answers d v f key H = (
   ap (address_of key) H.entries ∙ with-key d v f H key (address_of key (root_entries d.types f)) refl,
   ap (address_from key) H.entries ∙ from-key d v f H key (address_from key (root_entries d.types f)) refl,
 )
+
+index-tells : IndexTellsOfKeys
+index-tells d v f key i H is =
+    ap (λ (o : Option ℕ). is_some o) (index-answers d v f key H).0 ∙ first-has d v f H key i is (first_row (rows_of f) (is_root_with d.types (rows_of f) key)) refl
+
+pub told-root : IndexTellsOfRoots
+told-root d v f key root H at equal = by (first_row (rows_of f) (is_root_from d.types (rows_of f) key)) refl (sym (index-answers d v f key H).1 ∙ at)
+  where
+    by : (o : Option ℕ) → first_row (rows_of f) (is_root_from d.types (rows_of f) key) ≡ o → address_of_first f (is_root_from d.types (rows_of f) key) ≡ Some root.address
+        → IsToldRoot d.types f key root
+    by None e a = (let wrong : None ≡ Some root.address = sym (ap (option_map (λ i. address_at f i)) e) ∙ a in cc)
+    by (Some i) e a =
+        let same : Some (address_at f i) ≡ Some root.address = sym (ap (option_map (λ i. address_at f i)) e) ∙ a in
+        record { row = i; is_first = e; at = cc; equal = equal ∙ index-tells d v f key i H e }

@@ -1,5 +1,5 @@
 -- What the index answers, told of the rows of the forest that a volume holds.
-use Rattle.std.specs.Prelude.{◌≡◌, ℕ, ◌<◌, List, [], ◌∷◌, length, Some, None, true, false, IsTrue}
+use Rattle.std.specs.Prelude.{◌≡◌, ℕ, ◌<◌, List, [], ◌∷◌, length, Some, None, is_some, true, false, IsTrue, bytes_eq}
 use Rattle.hd_dbd.specs.declared.hierarchy.FreeSpace.{FreeSpace}
 use Rattle.hd_dbd.specs.Types.{SegmentType}
 use Rattle.hd_dbd.specs.Hierarchy.{Database}
@@ -15,6 +15,7 @@ use Rattle.hd_links.specs.Steps.{rows_of, address_at, path_at}
 use Rattle.hd_image.specs.Holding.{HoldsPlaced}
 use Rattle.hd_index.specs.Maps.{address_of, address_from}
 use Rattle.hd_index.specs.Changes.{entries_for}
+use Rattle.hd_index.specs.declared.search.RootFrom.{RootFrom}
 use Rattle.hd_changes.specs.Roots.{is_root, key_at, is_root_with, is_root_from, first_row, address_of_first}
 
 -- Roots are the rows at level 1.
@@ -48,6 +49,25 @@ IndexAnswersRoots =
     (d : Database) (v : VolumeState) (f : Forest Placed) (key : List ℕ) → HoldsPlaced d v f
     → (address_of key (entries_for d v) ≡ address_of_first f (is_root_with d.types (rows_of f) key))
     × (address_from key (entries_for d v) ≡ address_of_first f (is_root_from d.types (rows_of f) key))
+
+-- The first root whose key is not below a key has that key just where the index has it.
+abbrev pub IndexTellsOfKeys : Type 0
+IndexTellsOfKeys =
+    (d : Database) (v : VolumeState) (f : Forest Placed) (key : List ℕ) (i : ℕ) → HoldsPlaced d v f → first_row (rows_of f) (is_root_from d.types (rows_of f) key) ≡ Some i
+    → is_some (address_of key (entries_for d v)) ≡ bytes_eq (key_at d.types (rows_of f) i) key
+
+-- The row is the first root of a forest whose key is not below a key, and this is told of it: its address, and whether its key is that one.
+pub record IsToldRoot (types : List SegmentType) (f : Forest Placed) (key : List ℕ) (root : RootFrom) : Type 0 where
+  pub row : ℕ
+  pub is_first : first_row (rows_of f) (is_root_from types (rows_of f) key) ≡ Some row
+  pub at : address_at f row ≡ root.address
+  pub equal : root.is_equal ≡ bytes_eq (key_at types (rows_of f) row) key
+
+-- So is the root of which the index tells.
+abbrev pub IndexTellsOfRoots : Type 0
+IndexTellsOfRoots =
+    (d : Database) (v : VolumeState) (f : Forest Placed) (key : List ℕ) (root : RootFrom) → HoldsPlaced d v f → address_from key (entries_for d v) ≡ Some root.address
+    → root.is_equal ≡ is_some (address_of key (entries_for d v)) → IsToldRoot d.types f key root
 
 -- Of the first n rows all roots have lesser keys.
 abbrev pub AreRootsBelow : List SegmentType → List Segment → List ℕ → ℕ → Type 0

@@ -31,4 +31,4 @@ pub use edit::{add_entry, remove_entry, set_entry_address, set_entry_key, set_ne
 pub use insertion::insert;
 pub use leave::remove;
 pub use need::{blocks_needed, growth, is_highest};
-pub use search::{find, next_from};
+pub use search::{RootFrom, find, next_from};

@@ -1,4 +1,5 @@
-ghost use Rattle.std.specs.Prelude.{◌≡◌, ◌≤◌, true, IsTrue, IfOk};
+ghost use Rattle.std.specs.Prelude.{◌≡◌, ◌≤◌, true, IsTrue, IfOk, IfSome, option_map};
+ghost use Rattle.std.specs.Option.{is_some};
 ghost use Rattle.hd_dbd.specs.Refusals.{OnlyDevice};
 ghost use Rattle.hd_volume.specs.Calls.{IsRead};
 ghost use Rattle.hd_index_blocks.specs.Maps.{address_of, address_from};
@@ -13,6 +14,13 @@ use hd_dbd::{Dbd, Refused};
 use hd_index_blocks::root_key_length;
 use hd_stores::BlockStore;
 use hd_volume::Volume;
+
+/// A root that a search from a key on came to: its address, and whether its key is that one.
+#[derive(Clone, Copy, Debug)]
+pub struct RootFrom {
+    pub address: u32,
+    pub is_equal: bool,
+}
 
 /// The address of the root of a key, if there is one.
 ///
@@ -31,22 +39,26 @@ pub fn find<S: BlockStore>(
     Ok(sight.equal)
 }
 
-/// The address of the root of the least key that is not below a key, if there is one.
+/// The root of the least key that is not below a key, if there is one.
 ///
 /// Over a volume without an index it answers something, or `Device`.
 pub fn next_from<S: BlockStore>(
     volume: &mut Volume<S>,
     dbd: &Dbd,
     key: &[u8],
-) -> Result<Option<u32>, Refused>
+) -> Result<Option<RootFrom>, Refused>
     ensures read { IsRead volume.old result volume.new }
-    ensures value { IfOk result (λ r. IsTrue volume.old.is_sound → IsIndexOf dbd.now volume.old → r ≡ address_from key.now (entries_for dbd.now volume.old)) }
+    ensures value { IfOk result (λ r. IsTrue volume.old.is_sound → IsIndexOf dbd.now volume.old → option_map (λ root. root.address) r ≡ address_from key.now (entries_for dbd.now volume.old)) }
+    ensures equal { IfOk result (λ r. IfSome r (λ root. IsTrue volume.old.is_sound → IsIndexOf dbd.now volume.old → root.is_equal ≡ is_some (address_of key.now (entries_for dbd.now volume.old)))) }
     ensures refusal { OnlyDevice result }
 {
     let key_length = root_key_length(dbd);
     let sight = look_up(volume, key_length, key)?;
-    let found = look_on(volume, key_length, sight, key)?;
-    Ok(found)
+    let is_equal = sight.equal.is_some();
+    let Some(address) = look_on(volume, key_length, sight, key)? else {
+        return Ok(None);
+    };
+    Ok(Some(RootFrom { address, is_equal }))
 }
 
 /// What the block of the sequence set that a key leads to says of it.

@@ -25,6 +25,14 @@ fn key_of(n: u32, length: usize) -> [u8; 255] {
     key
 }
 
+/// The address of the root of the least key that is not below a key.
+fn address_from(trial: &mut Trial<'_>, key: &[u8]) -> Result<Option<u32>, Refused> {
+    match next_from(&mut trial.volume, trial.dbd, key)? {
+        Some(root) => Ok(Some(root.address)),
+        None => Ok(None),
+    }
+}
+
 /// Makes a call, as a word names it, with the key of a number: `find` it, the `next` from it on, the `least`, `remove` it, `set` its address, and else
 /// enter it. Says the address that was asked for.
 pub fn make(trial: &mut Trial<'_>, word: u8, n: u32) -> Result<Option<u32>, Refused> {
@@ -33,8 +41,8 @@ pub fn make(trial: &mut Trial<'_>, word: u8, n: u32) -> Result<Option<u32>, Refu
     let key = &bytes[..length.min(255)];
     match word {
         b'f' => return find(&mut trial.volume, trial.dbd, key),
-        b'n' => return next_from(&mut trial.volume, trial.dbd, key),
-        b'l' => return next_from(&mut trial.volume, trial.dbd, &[]),
+        b'n' => return address_from(trial, key),
+        b'l' => return address_from(trial, &[]),
         b'r' => remove(&mut trial.volume, trial.dbd, key)?,
         b's' => set(&mut trial.volume, trial.dbd, key, n.wrapping_add(70_000))?,
         _ => trial.enter(key, n.wrapping_add(1))?,
@@ -92,6 +100,20 @@ pub fn agree_at_all(
     Ok(true)
 }
 
+/// Whether what is told of the root from the key of a number on, that its key is that one, is so by the map; of so many numbers, from 0 on.
+fn tells_of_keys(trial: &mut Trial<'_>, map: &Map, count: u32) -> Result<bool, Refused> {
+    let length = root_key_length(trial.dbd).min(255);
+    for n in 0..count {
+        let bytes = key_of(n, length);
+        if let Some(root) = next_from(&mut trial.volume, trial.dbd, &bytes[..length])? {
+            if root.is_equal != map.get(&n).is_some() {
+                return Ok(false);
+            }
+        }
+    }
+    Ok(true)
+}
+
 /// Enters the keys of so many numbers in an order, and takes some out between. Whether index and map agree then, at each key and from each on.
 pub fn agree_when_mixed(
     trial: &mut Trial<'_>,
@@ -106,7 +128,11 @@ pub fn agree_when_mixed(
         }
     }
     let numbers = [0, 1, count, u32::MAX];
-    Ok(agree_at_all(trial, map, b'f', numbers)? && agree_at_all(trial, map, b'n', numbers)?)
+    Ok(
+        agree_at_all(trial, map, b'f', numbers)?
+            && agree_at_all(trial, map, b'n', numbers)?
+            && tells_of_keys(trial, map, count)?,
+    )
 }
 
 /// Whether a line of a list is answered as it says: of the `height` of the index, of the blocks of the volume or `>` how many these are, and else of
