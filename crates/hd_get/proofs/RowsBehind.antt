@@ -1,7 +1,7 @@
 -- A get without arguments that goes on to the row just behind those passed.
 use Rattle.std.proofs.Common.{◌≡◌, ℕ, ◌+◌, ◌-◌, ◌<◌, ◌≤◌, List, [], ◌∷◌, take, length, Bool, true, false, cond, Some, IsTrue, sym, ap, subst, ◌∙◌, refl, arith, length-append}
 use Rattle.std.specs.Prelude.{◌&&◌, unwrap_or, is_some, nat_lt}
-use Rattle.std.proofs.lemmas.Bool.{ltb-true}
+use Rattle.std.proofs.lemmas.Bool.{and_parts, ltb-true}
 use Rattle.hd_dbd.specs.Types.{View}
 use Rattle.hd_dbd.specs.Hierarchy.{Database, level_of}
 use Rattle.hd_dbd.specs.Letters.{gives_get}
@@ -28,15 +28,10 @@ use Rattle.hd_get.proofs.NextTwins.{there_is, stays_below, sought_there}
 use Rattle.hd_get.proofs.Starts.{leads_whole, leads_below, parent_there}
 use Rattle.hd_get.proofs.Seeking.{next_begins, below_begins}
 
-both_true : (a b : Bool) → (a && b) ≡ true → (a ≡ true) × (b ≡ true)
-both_true true true e = (refl, refl)
-both_true true false e = cc
-both_true false b e = cc
-
 -- a GNP that begins behind has a parentage row, and the row is below it
 pub below_parent : (d : Database) (k : Kept) (code : ℕ) → begins_behind d.types NextInParent k code ≡ true → (is_some (row_on k.path k.parent) ≡ true) × (k.parent < level_of d.types code)
 below_parent d k code is =
-    let both = both_true (is_some (row_on k.path k.parent)) (nat_lt k.parent (level_of d.types code)) is in
+    let both = and_parts (is_some (row_on k.path k.parent)) (nat_lt k.parent (level_of d.types code)) is in
     (both.0, ltb-true k.parent (level_of d.types code) both.1)
 
 module _ (d : Database) (v : VolumeState) (k : Kept) (a code : ℕ) (of : IsTrue v.is_sound → IsVolumeOf d v) (behind : IsTrue v.is_sound → IsBehind d.types (links_of d.types v) k a code) where

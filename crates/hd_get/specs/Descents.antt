@@ -1,5 +1,5 @@
 -- Going down from a root by the keys and to the last twins that segment search arguments ask for.
-use Rattle.std.specs.Prelude.{◌≡◌, ℕ, ◌<◌, ◌≤◌, List, [], ◌∷◌, length, Bool, true, false, not, ◌==◌, ◌&&◌, ◌||◌, Option, Some, None, IfSome, option_and_then}
+use Rattle.std.specs.Prelude.{◌≡◌, IsTrue, ℕ, ◌<◌, ◌≤◌, List, [], ◌∷◌, length, Bool, true, false, not, ◌==◌, ◌&&◌, ◌||◌, Option, Some, None, IfSome, option_and_then}
 use Rattle.std.specs.Option.{option_map_or}
 use Rattle.std.specs.List.{list_all}
 use Rattle.std.specs.Ordering.{nat_cmp, is_eq}
@@ -11,10 +11,12 @@ use Rattle.hd_dbd.specs.Rows.{key_of}
 use Rattle.hd_dbd.specs.Searches.{first_from}
 use Rattle.hd_dbd.specs.Forest.{Forest}
 use Rattle.hd_volume.specs.Volumes.{VolumeState}
+use Rattle.hd_links.specs.Links.{segment_at}
 use Rattle.hd_links.specs.Placed.{Placed}
 use Rattle.hd_links.specs.Steps.{rows_of, path_at, is_child_row}
 use Rattle.hd_image.specs.Records.{links_of}
 use Rattle.hd_forest.specs.Rows.{IsOnRow}
+use Rattle.hd_forest.specs.Walks.{tip}
 use Rattle.hd_calls.specs.Ssas.{Ssa, target_code}
 use Rattle.hd_calls.specs.Satisfies.{is_named}
 use Rattle.hd_calls.specs.Gets.{first_child}
@@ -83,6 +85,10 @@ GoesOnward d v ssas old told new = (f : Forest Placed) (i : ℕ) → IsPathOf d 
 abbrev pub is_root_first : List Ssa → Bool
 is_root_first [] = false
 is_root_first (a ∷ ssas) = a.code == 1
+
+-- where the store is sound, the segment at the end of the path has the key
+abbrev pub HasTipKey : Database → VolumeState → List ℕ → List ℕ → Type 0
+HasTipKey d v key path = IsTrue v.is_sound → key_of d.types (segment_at (links_of d.types v) (tip path)) ≡ key
 
 -- wherever the path is that of a row, the answer says whether that meets the arguments of its type
 abbrev pub AdmitsTip : Database → VolumeState → List Ssa → List ℕ → Bool → Type 0

@@ -9,7 +9,7 @@ ghost use Rattle.hd_calls.specs.Admits.{Descend};
 ghost use Rattle.hd_get.specs.Searches.{IsOf, IsThere};
 ghost use Rattle.hd_get.specs.Starts.{least_root_key, HasRoots, LeadsToRoot, BeginsUnique, RefusesRootsBelow};
 ghost use Rattle.hd_get.specs.Asking.{least_key_of};
-ghost use Rattle.hd_get.specs.Descents.{GoesBelow, key_asked_of, asks_for, ask_for, StepsDown, GoesOnward, AdmitsTip, is_root_first};
+ghost use Rattle.hd_get.specs.Descents.{GoesBelow, key_asked_of, asks_for, ask_for, StepsDown, GoesOnward, AdmitsTip, HasTipKey, is_root_first};
 
 use crate::arguments::{goes_to_last, least_key_of};
 use crate::look::{admits_seen, look_at};
@@ -36,19 +36,24 @@ fn least_root_key<'a>(dbd: &Dbd, ssas: &[ResolvedSsa<'a>]) -> Option<&'a [u8]>
     ssa.least_key(root.key?)
 }
 
-/// The path of the first root whose key is not below a key; empty where there is none.
-fn root_from<S: BlockStore>(volume: &mut Volume<S>, dbd: &Dbd, key: &[u8]) -> Result<Path, Refused>
+/// The path of the first root whose key is not below a key, and whether its key is that one; empty where there is none.
+fn root_from<S: BlockStore>(
+    volume: &mut Volume<S>,
+    dbd: &Dbd,
+    key: &[u8],
+) -> Result<(Path, bool), Refused>
     requires holds { HasRoots dbd.now volume.old }
     ensures read { IsRead volume.old result volume.new }
-    ensures value { IfOk result (λ path. LeadsToRoot dbd.now volume.old key.now path) }
+    ensures value { IfOk result (λ r. LeadsToRoot dbd.now volume.old key.now r.0) }
+    ensures key { IfOk result (λ r. r.1 ≡ true → HasTipKey dbd.now volume.old key.now r.0) }
     ensures refusal { OnlyDevice result }
 {
     let mut path = Path::new();
-    let Some(address) = next_from(volume, dbd, key)? else {
-        return Ok(path);
+    let Some(root) = next_from(volume, dbd, key)? else {
+        return Ok((path, false));
     };
-    path.push(address);
-    Ok(path)
+    path.push(root.address);
+    Ok((path, root.is_equal))
 }
 
 /// Goes down from the last row of a path to its first child, of the type of a code, whose key is not below a key, and says whether its key is equal;
@@ -245,6 +250,30 @@ fn admits_tip<S: BlockStore>(
     admits_seen(volume, dbd, ssas, look, path)
 }
 
+/// Whether a root, the last row of a path, meets the arguments of its type; where its key is known to be one, and that is all they ask for, it is not
+/// read.
+fn admits_root<S: BlockStore>(
+    volume: &mut Volume<S>,
+    dbd: &Dbd,
+    ssas: &[ResolvedSsa<'_>],
+    path: &Path,
+    key: &[u8],
+    is_equal: bool,
+) -> Result<bool, Refused>
+    requires of { IsOf dbd.now volume.old }
+    requires there { IsThere dbd.now volume.old path.now }
+    requires root { IsTrue volume.old.is_sound → (links_of dbd.now.types volume.old).code (tip path.now) ≡ 1 }
+    requires key { is_equal ≡ true → HasTipKey dbd.now volume.old key.now path.now }
+    ensures read { IsRead volume.old result volume.new }
+    ensures value { IfOk result (λ r. AdmitsTip dbd.now volume.old ssas.now path.now r) }
+    ensures refusal { OnlyDevice result }
+{
+    if is_equal && ask_for(dbd, ssas, 1, key) {
+        return Ok(true);
+    }
+    admits_tip(volume, dbd, ssas, path)
+}
+
 /// The path of the first root whose key is not below a key, or, where it meets its arguments, of a row below it to which the others lead, and whether
 /// the arguments are known to name that row; empty where there is no such root.
 fn descend_from<S: BlockStore>(
@@ -262,11 +291,11 @@ fn descend_from<S: BlockStore>(
     ensures begins { IfOk result (λ r. BeginsUnique dbd.now volume.old ssas.now r.0 r.1) }
     ensures refusal { OnlyDevice result }
 {
-    let mut path = root_from(volume, dbd, key)?;
+    let (mut path, is_equal) = root_from(volume, dbd, key)?;
     if path.addresses().is_empty() {
         return Ok((path, false));
     }
-    if !admits_tip(volume, dbd, ssas, &path)? {
+    if !admits_root(volume, dbd, ssas, &path, key, is_equal)? {
         return Ok((path, false));
     }
     let is_named = descend(volume, dbd, ssas, &mut path)?;

@@ -1,12 +1,13 @@
 -- The place of a new root, by the index.
 use Rattle.std.proofs.Common.{◌≡◌, ℕ, ◌+◌, ◌<◌, ◌≤◌, List, [], ◌∷◌, length, Bool, true, false, IsTrue, Option, Some, None, refl, sym, ap, subst, ◌∙◌, arith}
-use Rattle.std.specs.Prelude.{option_map, IfSome}
+use Rattle.std.specs.Prelude.{option_map, IfSome, bytes_eq, cond}
 use Rattle.std.specs.Option.{option_map_or}
-use Rattle.std.specs.Ordering.{nat_cmp, is_lt}
+use Rattle.std.specs.Ordering.{nat_cmp, is_lt, is_eq}
 use Rattle.std.specs.declared.cmp.Ordering.{Ordering}
 use Rattle.std.specs.declared.cmp.Ordering.TheVariants.{Less, Equal, Greater}
 use Rattle.std.specs.Cmp.Lexicographic.{slice_cmp}
 use Rattle.std.proofs.lemmas.Bool.{and_parts, eq-eqb, eqb-true}
+use Rattle.std.proofs.lemmas.Map.Text.{is_eq-slice_cmp}
 use Rattle.hd_dbd.specs.declared.hierarchy.FreeSpace.{FreeSpace}
 use Rattle.hd_dbd.specs.Types.{SegmentType}
 use Rattle.hd_dbd.specs.Segment.{Segment}
@@ -103,6 +104,20 @@ module _ (d : Database) (v : VolumeState) (f : Forest Placed) (H : HoldsPlaced d
       before = λ some. before;
     }
 
+    -- beside a root whose key is not less it goes as is told of whether that is equal
+    pub told_side : (i : ℕ) → i < length (rows_of f) → key_less (key_at d.types (rows_of f) i) (key_of d.types row) ≡ false → (equal : Bool)
+        → equal ≡ bytes_eq (key_at d.types (rows_of f) i) (key_of d.types row)
+        → side_of (has_unique_key d.types row.code) false (cond equal Equal Greater) ≡ side_at d.types (links_of d.types v) false row (address_at f i)
+    told_side i within not_less equal told =
+        ap (side_of (has_unique_key d.types row.code) false)
+        (by (slice_cmp nat_cmp (key_at d.types (rows_of f) i) (key_of d.types row)) equal not_less (told ∙ sym (is_eq-slice_cmp (key_at d.types (rows_of f) i) (key_of d.types row))))
+        ∙ sym (ap (λ (s : Segment). side_of (has_unique_key d.types row.code) false (slice_cmp nat_cmp (key_of d.types s) (key_of d.types row))) ((ground d v f H).addressed.same i within))
+      where
+        by : (o : Ordering) (e : Bool) → is_lt o ≡ false → e ≡ is_eq o → cond e Equal Greater ≡ o
+        by Less e l s = cc
+        by Equal e l s = ap (λ b. cond b Equal Greater) s
+        by Greater e l s = ap (λ b. cond b Equal Greater) s
+
     -- a new root does not go behind one whose key is not less
     pub not_behind : (i : ℕ) → i < length (rows_of f) → key_less (key_at d.types (rows_of f) i) (key_of d.types row) ≡ false
         → side_at d.types (links_of d.types v) false row (address_at f i) ≡ Behind → ⊥
@@ -125,15 +140,7 @@ module _ (d : Database) (v : VolumeState) (f : Forest Placed) (H : HoldsPlaced d
       let code : m.code (address_at f i) ≡ 1 = ap (λ (r : Segment). r.code) ((ground d v f H).addressed.same i within) ∙ eqb-true (row_at (rows_of f) i).code 1 root in
       (down, subst (λ c. IsInChain m (m.first_child 0 c) (address_at f i)) code down.1)
 
-  -- what the index answers is the first root whose key is not below a key, or there is none
-  pub next_some : (key : List ℕ) (a : ℕ) → address_from key (entries_for d v) ≡ Some a → (i : ℕ) × (first_row (rows_of f) (is_root_from d.types (rows_of f) key) ≡ Some i) × (address_at f i ≡ a)
-  next_some key a is = by (first_row (rows_of f) (is_root_from d.types (rows_of f) key)) refl (sym (index-answers d v f key H).1 ∙ is)
-    where
-      by : (o : Option ℕ) → first_row (rows_of f) (is_root_from d.types (rows_of f) key) ≡ o → option_map (λ i. address_at f i) (first_row (rows_of f) (is_root_from d.types (rows_of f) key)) ≡ Some a
-          → (i : ℕ) × (first_row (rows_of f) (is_root_from d.types (rows_of f) key) ≡ Some i) × (address_at f i ≡ a)
-      by None e at = (let wrong : None ≡ Some a = sym (ap (option_map (λ i. address_at f i)) e) ∙ at in cc)
-      by (Some i) e at = (let same : Some (address_at f i) ≡ Some a = sym (ap (option_map (λ i. address_at f i)) e) ∙ at in (i, e, cc))
-
+  -- where the index answers none, all roots have lesser keys
   pub next_none : (key : List ℕ) → address_from key (entries_for d v) ≡ None → AreRootsBelow d.types (rows_of f) key (length (rows_of f))
   next_none key is = by (first_row (rows_of f) (is_root_from d.types (rows_of f) key)) refl (sym (index-answers d v f key H).1 ∙ is)
     where

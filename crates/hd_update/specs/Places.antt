@@ -29,7 +29,8 @@ use Rattle.hd_forest.specs.declared.read.EndChildren.{EndChildren}
 use Rattle.hd_forest.specs.declared.twins.TwinsAround.{TwinsAround}
 use Rattle.hd_forest.specs.Twins.{IsBehind, IsLastBelow}
 use Rattle.hd_forest.specs.Updates.{MayLink}
-use Rattle.hd_changes.specs.Roots.{is_root_from, first_row}
+use Rattle.hd_index.specs.declared.search.RootFrom.{RootFrom}
+use Rattle.hd_changes.specs.Found.{IsToldRoot}
 use Rattle.hd_position.specs.Kept.{Kept, row_on}
 use Rattle.hd_get.specs.Gets.{IsPositionIn}
 use Rattle.hd_update.specs.declared.places.Side.{Side}
@@ -161,8 +162,7 @@ IsBeforeEqual d v path code (Some y) =
 
 -- ---- roots
 
--- where the store is sound, at the address stands the first root, of a forest that the volume holds, whose key is not below a new root's
-abbrev pub HasNextRoot : Database → VolumeState → Segment → ℕ → Type 0
-HasNextRoot d v row a =
-    IsTrue v.is_sound → (f : Forest Placed) × (i : ℕ) × HoldsPlaced d v f × (first_row (rows_of f) (is_root_from d.types (rows_of f) (key_of d.types row)) ≡ Some i)
-    × (address_at f i ≡ a)
+-- where the store is sound, there stands the first root, of a forest that the volume holds, whose key is not below a new root's, and it is told whether that is equal
+abbrev pub HasNextRoot : Database → VolumeState → Segment → RootFrom → Type 0
+HasNextRoot d v row next =
+    IsTrue v.is_sound → (f : Forest Placed) × HoldsPlaced d v f × IsToldRoot d.types f (key_of d.types row) next

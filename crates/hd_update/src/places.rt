@@ -1,5 +1,6 @@
 //! Where a row goes in: the twin behind which it is linked.
-ghost use Rattle.std.specs.Prelude.{◌≡◌, ◌<◌, List, ℕ, true, false, Some, IfOk, IsTrue};
+ghost use Rattle.std.specs.Prelude.{◌≡◌, ◌<◌, List, ℕ, true, false, cond, Some, IfOk, IsTrue};
+ghost use Rattle.std.specs.declared.cmp.Ordering.TheVariants.{Equal, Greater};
 ghost use Rattle.hd_dbd.specs.Loads.{has_unique_key};
 ghost use Rattle.hd_dbd.specs.Refusals.{OnlyDevice};
 ghost use Rattle.hd_dbd.specs.Rows.{row_fits};
@@ -18,7 +19,7 @@ use hd_forest::{
     EndChildren, Path, TwinPlaces, TwinsAround, first_and_last_child, forward_in, key_at,
     last_twin, prev_twin, tip_of, twin_places, twins_around_between,
 };
-use hd_index::next_from;
+use hd_index::{RootFrom, next_from};
 use hd_position::Position;
 use hd_stores::BlockStore;
 use hd_volume::Volume;
@@ -259,11 +260,22 @@ pub fn place_by_key<S: BlockStore>(
     place_from_last(volume, dbd, parent, ends, last, code, bytes)
 }
 
-/// The place of a root before the first one whose key is not less, if that is not its own.
+/// How the key of a root that a search from a key on came to stands to that key.
+fn order_of(root: RootFrom) -> Ordering
+    ensures { result ≡ cond root.is_equal Equal Greater }
+{
+    if root.is_equal {
+        Ordering::Equal
+    } else {
+        Ordering::Greater
+    }
+}
+
+/// The place of a root before the first one whose key is not less, if that is not its own. One access.
 fn place_before_root<S: BlockStore>(
     volume: &mut Volume<S>,
     dbd: &Dbd,
-    next: u32,
+    next: RootFrom,
     bytes: &[u8],
 ) -> Result<Option<u32>, Refused>
     requires next { HasNextRoot dbd.now volume.old (record { code = 1; bytes = bytes.now }) next }
@@ -271,10 +283,10 @@ fn place_before_root<S: BlockStore>(
     ensures value { IfOk result (λ r. IsGapBelow dbd.now volume.old 0 false (record { code = 1; bytes = bytes.now }) r) }
     ensures refusal { OnlyDevice result }
 {
-    match side_at(volume, dbd, next, false, 1, bytes)? {
+    match side_of(dbd, 1, false, order_of(next)) {
         Side::Before => {
             let mut path = Path::new();
-            path.push(next);
+            path.push(next.address);
             let twin = prev_twin(volume, dbd, &path)?;
             Ok(Some(twin))
         }
