@@ -4,7 +4,7 @@ use Rattle.std.specs.Prelude.{◌==◌, ◌&&◌, ◌||◌, nat_lt, cond, flat_m
 use Rattle.std.specs.List.{starts_with}
 use Rattle.std.proofs.Math.Seq.{take-append_seam, take-length}
 use Rattle.std.proofs.lemmas.List.{length-append}
-use Rattle.std.proofs.lemmas.Bool.{false≢true, lt-ltb, ltb-true, eqb-true}
+use Rattle.std.proofs.lemmas.Bool.{and_parts, lt-ltb, ltb-true, eqb-true}
 use Rattle.std.proofs.lemmas.Bool.Decides.{Decides-eqb}
 use Rattle.std.proofs.lemmas.Slice.Eq.{starts_is}
 use Rattle.hd_dbd.specs.Types.{SegmentType}
@@ -23,20 +23,15 @@ use Rattle.hd_forest.specs.Walks.{IsAhead, tip}
 use Rattle.hd_forest.proofs.Reading.{after-read, links-kept}
 use Rattle.hd_session.specs.Buffer.{Buffer}
 use Rattle.hd_session.specs.Giving.{IsEmpty, IsGiven, IsCodeOn, HasAdded, is_among, bytes_at, with_path}
-use Rattle.hd_session.specs.Above.{Above, above_nothing, AreKeysIn, IsSeenIn, AreKeysOf, IsJustBelow, AreNoted, is_begun_by, are_below}
+use Rattle.hd_session.specs.LastGiven.{Given, nothing_given, AreKeysIn, IsSeenIn, AreKeysOf, IsJustBelow, AreNoted, is_begun_by, are_below}
 
 -- ---- what is added of them
-
-both_true : (a b : Bool) → (a && b) ≡ true → (a ≡ true) × (b ≡ true)
-both_true true true e = (refl, refl)
-both_true true false e = absurd (false≢true e)
-both_true false b e = absurd (false≢true e)
 
 -- no level at or above one is among those below it
 none_above : (levels : List ℕ) (level k : ℕ) → are_below levels level ≡ true → k ≤ level → is_among levels k ≡ false
 none_above [] level k below high = refl
 none_above (l ∷ ls) level k below high =
-    let both = both_true (nat_lt level l) (are_below ls level) below in
+    let both = and_parts (nat_lt level l) (are_below ls level) below in
     by (l == k) refl (ltb-true level l both.0) (none_above ls level k both.1 high)
   where
     by : (b : Bool) → (l == k) ≡ b → level < l → is_among ls k ≡ false → (b || is_among ls k) ≡ false
@@ -50,9 +45,9 @@ none_given_above bytes levels level l (a ∷ path) below few =
     ap₂ (λ (b : Bool) (r : List ℕ). cond b (bytes a) [] ++ r) (none_above levels level l below (omega arith)) (none_given_above bytes levels level (l + 1) path below (omega arith))
 
 -- a path that is begun by rows has these first
-pub begun : (path : List ℕ) (above : Above) → is_begun_by path above ≡ true → (length above.path < length path) × (take (length above.path) path ≡ above.path)
+pub begun : (path : List ℕ) (above : Given) → is_begun_by path above ≡ true → (length above.path < length path) × (take (length above.path) path ≡ above.path)
 begun path above is =
-    let both = both_true (nat_lt (length above.path) (length path)) (starts_with (λ a b. a == b) path above.path) is in
+    let both = and_parts (nat_lt (length above.path) (length path)) (starts_with (λ a b. a == b) path above.path) is in
     let first : path ≡ above.path ++ drop (length above.path) path
     = (starts_is Decides-eqb path above.path (starts_with (λ a b. a == b) path above.path) refl).0 both.1 in (
       ltb-true (length above.path) (length path) both.0,
@@ -60,7 +55,7 @@ begun path above is =
     )
 
 -- a path that goes from there to a row of the level below the rows leads just below them
-pub just_below : (path : List ℕ) (above : Above) (level a : ℕ) → level ≡ length above.path + 1 → is_begun_by path above ≡ true → IsJustBelow (take (level - 1) path ++ a ∷ []) above
+pub just_below : (path : List ℕ) (above : Given) (level a : ℕ) → level ≡ length above.path + 1 → is_begun_by path above ≡ true → IsJustBelow (take (level - 1) path ++ a ∷ []) above
 just_below path above level a at is =
     let rows : List ℕ = above.path in
     let first : take (level - 1) path ++ a ∷ [] ≡ rows ++ a ∷ []
@@ -72,7 +67,7 @@ just_below path above level a at is =
     subst (λ (xs : List ℕ). IsJustBelow xs above) (sym first) (long, ap₂ (λ (a b : Bool). a && b) lower starts)
 
 -- the keys that are known are all that the rows add
-pub known_added : (types : List SegmentType) (m : Links) (levels path : List ℕ) (room : ℕ) (above : Above) → is_begun_by path above ≡ true → are_below levels (length above.path) ≡ true
+pub known_added : (types : List SegmentType) (m : Links) (levels path : List ℕ) (room : ℕ) (above : Given) → is_begun_by path above ≡ true → are_below levels (length above.path) ≡ true
     → AreKeysIn types m above → record { key = above.keys; area = []; room = room } ≡ with_path types m levels room (take (length above.path) path)
 known_added types m levels path room above is below known =
     ap₂ (λ (k b : List ℕ). record { key = k; area = b; room = room }) known (sym (none_given_above m.bytes levels (length above.path) 1 above.path below (omega arith)))
@@ -86,7 +81,7 @@ none_added types m levels path b empty = ap₂ (λ (k a : List ℕ). record { ke
 
 module _ {A : Type 0} {x : A} (d : Database) (u v : VolumeState) (read : IsRead {T = A} u (Ok x) v) where
   -- the keys are still those of the rows
-  pub keys_kept : (above : Above) → AreKeysOf d u above → AreKeysOf d v above
+  pub keys_kept : (above : Given) → AreKeysOf d u above → AreKeysOf d v above
   keys_kept above known = links-kept d (λ m. AreKeysIn d.types m above × IsSeenIn d.types m above) u v read known
 
   -- and a segment names what it named ahead of it
@@ -117,21 +112,21 @@ added_all d v path levels b has sound = has sound ∙ ap (with_path d.types (lin
 -- ---- what is noted
 
 -- where no row is known, all that is known is so
-pub nothing_known : (d : Database) (v : VolumeState) (above : Above) → above ≡ above_nothing → AreKeysOf d v above
-nothing_known d v above none sound = subst (λ (x : Above). AreKeysIn d.types (links_of d.types v) x × IsSeenIn d.types (links_of d.types v) x) (sym none) (refl, tt)
+pub nothing_known : (d : Database) (v : VolumeState) (above : Given) → above ≡ nothing_given → AreKeysOf d v above
+nothing_known d v above none sound = subst (λ (x : Given). AreKeysIn d.types (links_of d.types v) x × IsSeenIn d.types (links_of d.types v) x) (sym none) (refl, tt)
 
 -- what is noted of the rows above is known
-pub noted : (d : Database) (v : VolumeState) (path levels : List ℕ) (n : ℕ) (b : Buffer) (above : Above) → n ≡ length path - 1 → HasAdded d v path levels n b → AreNoted path b.key above → AreKeysOf d v above
+pub noted : (d : Database) (v : VolumeState) (path levels : List ℕ) (n : ℕ) (b : Buffer) (above : Given) → n ≡ length path - 1 → HasAdded d v path levels n b → AreNoted path b.key above → AreKeysOf d v above
 noted d v path levels n b above last has (inl none) sound = nothing_known d v above none sound
 noted d v path levels n b above last has (inr some) sound =
-    subst (λ (x : Above). AreKeysIn d.types (links_of d.types v) x × IsSeenIn d.types (links_of d.types v) x) (sym some)
+    subst (λ (x : Given). AreKeysIn d.types (links_of d.types v) x × IsSeenIn d.types (links_of d.types v) x) (sym some)
     (ap (λ (x : Buffer). x.key) (has sound) ∙ ap (λ k. flat_map (λ a. key_of d.types (segment_at (links_of d.types v) a)) (take k path)) last, tt)
 
 -- what a segment was seen to name ahead of it is known too
-pub seen : (d : Database) (v : VolumeState) (old new : Above) (a : ℕ) (ahead : Ahead) → new ≡ record old { seen = Some (a, ahead) } → AreKeysOf d v old
+pub seen : (d : Database) (v : VolumeState) (old new : Given) (a : ℕ) (ahead : Ahead) → new ≡ record old { seen = Some (a, ahead) } → AreKeysOf d v old
     → (IsTrue v.is_sound → IsAhead d.types (links_of d.types v) a ahead) → AreKeysOf d v new
 seen d v old new a ahead is known named sound =
-    subst (λ (x : Above). AreKeysIn d.types (links_of d.types v) x × IsSeenIn d.types (links_of d.types v) x) (sym is) ((known sound).0, named sound)
+    subst (λ (x : Given). AreKeysIn d.types (links_of d.types v) x × IsSeenIn d.types (links_of d.types v) x) (sym is) ((known sound).0, named sound)
 
 -- where a call is answered, what holds of all answers holds of its own
 pub if_ok_any : {A : Type 0} {P : A → Type 0} (r : Result A Refused) → ((x : A) → P x) → IfOk r P

@@ -3,7 +3,7 @@ pub mod Tests
 pub mod Buffer
 pub mod Replies
 pub mod Giving
-pub mod Above
+pub mod LastGiven
 pub mod Sessions
 pub mod Loads
 pub mod Inserts

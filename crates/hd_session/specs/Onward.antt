@@ -12,7 +12,7 @@ use Rattle.hd_position.specs.Kept.{Kept}
 use Rattle.hd_position.specs.Behind.{IsBehind}
 use Rattle.hd_get.specs.Searches.{IsOf}
 use Rattle.hd_get.specs.Gets.{HasPosition}
-use Rattle.hd_session.specs.Above.{Above, AreKeysOf}
+use Rattle.hd_session.specs.LastGiven.{Given, AreKeysOf}
 use Rattle.hd_session.specs.declared.next_twin.Readable.{Readable}
 
 -- the PCB may read the type of a code, and does not load
@@ -28,5 +28,5 @@ abbrev pub IsReadableOf : List SegmentType → List View → Readable → Type 0
 IsReadableOf types pcbs noted = (pcb : View) → view_of pcbs noted.pcb ≡ Some pcb → AreReadable types pcb noted.code
 
 -- wherever what is known is so, the row just behind those passed is the one at an address, of a type
-abbrev pub IsKnownBehind : Database → Kept → Above → ℕ → ℕ → Type 0
+abbrev pub IsKnownBehind : Database → Kept → Given → ℕ → ℕ → Type 0
 IsKnownBehind d k above a code = (v : VolumeState) → IsOf d v → HasPosition d v k → AreKeysOf d v above → IsTrue v.is_sound → IsBehind d.types (links_of d.types v) k a code

@@ -13,13 +13,12 @@ ghost use Rattle.hd_update.specs.States.{HasState, IsAreaWrong, kept_of};
 ghost use Rattle.hd_dbd.specs.Calls.{bare};
 ghost use Rattle.hd_session.specs.Replies.{reply_of};
 ghost use Rattle.hd_session.specs.Giving.{IsEmpty};
-ghost use Rattle.hd_session.specs.Above.{AreKeysOf};
+ghost use Rattle.hd_session.specs.LastGiven.{AreKeysOf};
 ghost use Rattle.hd_session.specs.Foretelling.{is_get, is_get_call};
 ghost use Rattle.hd_session.specs.Onward.{AreReadable};
 ghost use Rattle.hd_session.specs.Inserts.{AreArgumentsOf};
 ghost use Rattle.hd_session.specs.Sessions.{IsStepDone, IsUndoneUnlessDevice, IsRoomLacking, IsMemoryLacking, own_in, call_in, IfFewNoInsert};
 
-use crate::above::KeysAbove;
 use crate::accepted::Accepted;
 use crate::buffer::IoArea;
 use crate::call_and_answer::{Answer, Call};
@@ -27,6 +26,7 @@ use crate::functions::function_of;
 use crate::get_answers::{answer_behind, answer_get};
 use crate::given_rows::give_none;
 use crate::insert_answers::answer_isrt;
+use crate::last_given::LastGiven;
 use crate::load_answers::answer_load;
 use crate::next_twin::known_behind;
 use crate::tests_by_function::last_test;
@@ -98,7 +98,7 @@ fn answer_accepted<S: BlockStore>(
     number: usize,
     call: &Call,
     accepted: &Accepted<'_>,
-    above: &mut KeysAbove,
+    last_given: &mut LastGiven,
     io: &mut IoArea,
 ) -> Result<Answer, Refused>
     requires number { (0 < number) × (number ≤ length positions.old) }
@@ -107,12 +107,12 @@ fn answer_accepted<S: BlockStore>(
     requires state { HasState dbd.now volume.old positions.old }
     requires loader { loads pcb.now ≡ true → HasPassedAll dbd.now volume.old positions.old number }
     requires resolved { resolve (record { types = dbd.now.types; pcb = pcb.now }) accepted.now.function call.now.ssas ≡ Ok accepted.now.ssas }
-    requires known { AreKeysOf dbd.now volume.old above.old }
+    requires known { AreKeysOf dbd.now volume.old last_given.old }
     requires held { accepted.now.function ≡ Function.Replace → IsTrue volume.old.is_sound → 0 < length (kept_of positions.old number).held }
     requires room { longest_path dbd.now.types ≤ io.old.room }
     requires empty { IsEmpty io.old }
     ensures call { IsCall volume.old result volume.new }
-    ensures known { IfOk result (λ _. AreKeysOf dbd.now volume.new above.new) }
+    ensures known { IfOk result (λ _. AreKeysOf dbd.now volume.new last_given.new) }
     ensures done { IfOk result (λ a. IsStepDone dbd.now volume.old positions.old number (own_in dbd.now pcb.now number call.now.area accepted.now) (reply_of a io.new) volume.new positions.new) }
     ensures undone { IfErr result (λ e. IsUndoneUnlessDevice volume.old positions.old e volume.new positions.new) }
     ensures area { IfErr result (λ e. IsAreaWrong dbd.now volume.old positions.old (own_in dbd.now pcb.now number call.now.area accepted.now) e) }
@@ -135,18 +135,18 @@ fn answer_accepted<S: BlockStore>(
                 hold,
                 ssas,
             };
-            answer_get(volume, dbd, positions, number, &call, above, io)
+            answer_get(volume, dbd, positions, number, &call, last_given, io)
         }
         Function::Insert => {
-            above.forget();
+            last_given.forget();
             answer_insert(volume, dbd, pcb, positions, number, ssas, &call.area, io)
         }
         Function::Replace => {
-            above.forget();
+            last_given.forget();
             answer_repl(volume, dbd, positions, number, ssas, &call.area, io)
         }
         Function::Delete => {
-            above.forget();
+            last_given.forget();
             answer_dlet(volume, dbd, positions, number, ssas, io)
         }
     }
@@ -162,7 +162,7 @@ fn answer_tested<S: BlockStore>(
     call: &Call,
     function: Function,
     ssas: &[ResolvedSsa<'_>],
-    above: &mut KeysAbove,
+    last_given: &mut LastGiven,
     io: &mut IoArea,
 ) -> Result<Answer, Refused>
     requires number { (0 < number) × (number ≤ length positions.old) }
@@ -170,13 +170,13 @@ fn answer_tested<S: BlockStore>(
     requires sizes { volume.old.sizes ≡ stored_sizes dbd.now.types }
     requires state { HasState dbd.now volume.old positions.old }
     requires loader { loads pcb.now ≡ true → HasPassedAll dbd.now volume.old positions.old number }
-    requires known { AreKeysOf dbd.now volume.old above.old }
+    requires known { AreKeysOf dbd.now volume.old last_given.old }
     requires room { longest_path dbd.now.types ≤ io.old.room }
     requires empty { IsEmpty io.old }
     requires named { function_of call.now.function ≡ Some function }
     requires resolved { resolve (record { types = dbd.now.types; pcb = pcb.now }) function call.now.ssas ≡ Ok ssas.now }
     ensures call { IsCall volume.old result volume.new }
-    ensures known { IfOk result (λ _. AreKeysOf dbd.now volume.new above.new) }
+    ensures known { IfOk result (λ _. AreKeysOf dbd.now volume.new last_given.new) }
     ensures done { IfOk result (λ a. IsStepDone dbd.now volume.old positions.old number (call_in dbd.now pcb.now number call.now) (reply_of a io.new) volume.new positions.new) }
     ensures undone { IfErr result (λ e. IsUndoneUnlessDevice volume.old positions.old e volume.new positions.new) }
     ensures area { IfErr result (λ e. IsAreaWrong dbd.now volume.old positions.old (call_in dbd.now pcb.now number call.now) e) }
@@ -195,7 +195,7 @@ fn answer_tested<S: BlockStore>(
         None => {
             let accepted = Accepted { function, ssas };
             answer_accepted(
-                volume, dbd, pcb, positions, number, call, &accepted, above, io,
+                volume, dbd, pcb, positions, number, call, &accepted, last_given, io,
             )
         }
     }
@@ -212,7 +212,7 @@ fn answer_named<S: BlockStore>(
     number: usize,
     call: &Call,
     function: Function,
-    above: &mut KeysAbove,
+    last_given: &mut LastGiven,
     io: &mut IoArea,
 ) -> Result<Answer, Refused>
     requires number { (0 < number) × (number ≤ length positions.old) }
@@ -220,12 +220,12 @@ fn answer_named<S: BlockStore>(
     requires sizes { volume.old.sizes ≡ stored_sizes dbd.now.types }
     requires state { HasState dbd.now volume.old positions.old }
     requires loader { loads pcb.now ≡ true → HasPassedAll dbd.now volume.old positions.old number }
-    requires known { AreKeysOf dbd.now volume.old above.old }
+    requires known { AreKeysOf dbd.now volume.old last_given.old }
     requires empty { IsEmpty io.old }
     requires named { function_of call.now.function ≡ Some function }
     requires room { longest_path dbd.now.types ≤ io.old.room }
     ensures call { IsCall volume.old result volume.new }
-    ensures known { IfOk result (λ _. AreKeysOf dbd.now volume.new above.new) }
+    ensures known { IfOk result (λ _. AreKeysOf dbd.now volume.new last_given.new) }
     ensures done { IfOk result (λ a. IsStepDone dbd.now volume.old positions.old number (call_in dbd.now pcb.now number call.now) (reply_of a io.new) volume.new positions.new) }
     ensures undone { IfErr result (λ e. IsUndoneUnlessDevice volume.old positions.old e volume.new positions.new) }
     ensures area { IfErr result (λ e. IsAreaWrong dbd.now volume.old positions.old (call_in dbd.now pcb.now number call.now) e) }
@@ -243,7 +243,7 @@ fn answer_named<S: BlockStore>(
         Ok(resolved) => {
             let ssas = resolved.ssas();
             answer_tested(
-                volume, dbd, pcb, positions, number, call, function, ssas, above, io,
+                volume, dbd, pcb, positions, number, call, function, ssas, last_given, io,
             )
         }
         Err(SsaFault::Status(status)) => Ok(fail(positions, number, status, io)),
@@ -262,7 +262,7 @@ fn answer_bare_get<S: BlockStore>(
     kind: GetKind,
     hold: bool,
     readable: &mut Option<u8>,
-    above: &mut KeysAbove,
+    last_given: &mut LastGiven,
     io: &mut IoArea,
 ) -> Result<Answer, Refused>
     requires number { (0 < number) × (number ≤ length positions.old) }
@@ -271,14 +271,14 @@ fn answer_bare_get<S: BlockStore>(
     requires state { HasState dbd.now volume.old positions.old }
     requires loader { loads pcb.now ≡ true → HasPassedAll dbd.now volume.old positions.old number }
     requires readable { AreReadable dbd.now.types pcb.now readable.old }
-    requires known { AreKeysOf dbd.now volume.old above.old }
+    requires known { AreKeysOf dbd.now volume.old last_given.old }
     requires room { longest_path dbd.now.types ≤ io.old.room }
     requires empty { IsEmpty io.old }
     requires named { function_of call.now.function ≡ Some (Function.Get kind hold) }
     requires bare { call.now.ssas ≡ [] }
     ensures read { IsRead volume.old result volume.new }
     ensures readable { AreReadable dbd.now.types pcb.now readable.new }
-    ensures known { IfOk result (λ _. AreKeysOf dbd.now volume.new above.new) }
+    ensures known { IfOk result (λ _. AreKeysOf dbd.now volume.new last_given.new) }
     ensures done { IfOk result (λ a. IsStepDone dbd.now volume.old positions.old number (call_in dbd.now pcb.now number call.now) (reply_of a io.new) volume.new positions.new) }
     ensures empty { IfErr result (λ _. IsEmpty io.new) }
     ensures same_room { io.new.room ≡ io.old.room }
@@ -291,9 +291,11 @@ fn answer_bare_get<S: BlockStore>(
         hold,
         ssas: &[],
     };
-    match known_behind(dbd, &get, &positions[number - 1], readable, above) {
+    match known_behind(dbd, &get, &positions[number - 1], readable, last_given) {
         Some((twin, code)) => {
-            answer_behind(volume, dbd, positions, number, &get, twin, code, above, io)
+            answer_behind(
+                volume, dbd, positions, number, &get, twin, code, last_given, io,
+            )
         }
         None => {
             let function = Function::Get(kind, hold);
@@ -306,7 +308,7 @@ fn answer_bare_get<S: BlockStore>(
                 call,
                 function,
                 &[],
-                above,
+                last_given,
                 io,
             )
         }
@@ -326,7 +328,7 @@ pub fn call_step<S: BlockStore>(
     number: usize,
     call: &Call,
     readable: &mut Option<u8>,
-    above: &mut KeysAbove,
+    last_given: &mut LastGiven,
     io: &mut IoArea,
 ) -> Result<Answer, Refused>
     requires number { (0 < number) × (number ≤ length positions.old) }
@@ -335,11 +337,11 @@ pub fn call_step<S: BlockStore>(
     requires state { HasState dbd.now volume.old positions.old }
     requires loader { loads pcb.now ≡ true → HasPassedAll dbd.now volume.old positions.old number }
     requires readable { AreReadable dbd.now.types pcb.now readable.old }
-    requires known { AreKeysOf dbd.now volume.old above.old }
+    requires known { AreKeysOf dbd.now volume.old last_given.old }
     requires room { longest_path dbd.now.types ≤ io.old.room }
     ensures readable { AreReadable dbd.now.types pcb.now readable.new }
     ensures call { IsCall volume.old result volume.new }
-    ensures known { IfOk result (λ _. AreKeysOf dbd.now volume.new above.new) }
+    ensures known { IfOk result (λ _. AreKeysOf dbd.now volume.new last_given.new) }
     ensures done { IfOk result (λ a. IsStepDone dbd.now volume.old positions.old number (call_in dbd.now pcb.now number call.now) (reply_of a io.new) volume.new positions.new) }
     ensures undone { IfErr result (λ e. IsUndoneUnlessDevice volume.old positions.old e volume.new positions.new) }
     ensures area { IfErr result (λ e. IsAreaWrong dbd.now volume.old positions.old (call_in dbd.now pcb.now number call.now) e) }
@@ -360,12 +362,12 @@ pub fn call_step<S: BlockStore>(
     let texts = call.ssas.as_slice();
     if !texts.is_empty() {
         return answer_named(
-            alloc, volume, dbd, pcb, positions, number, call, function, above, io,
+            alloc, volume, dbd, pcb, positions, number, call, function, last_given, io,
         );
     }
     if let Function::Get(kind, hold) = function {
         return answer_bare_get(
-            volume, dbd, pcb, positions, number, call, kind, hold, readable, above, io,
+            volume, dbd, pcb, positions, number, call, kind, hold, readable, last_given, io,
         );
     }
     answer_tested(
@@ -377,7 +379,7 @@ pub fn call_step<S: BlockStore>(
         call,
         function,
         &[],
-        above,
+        last_given,
         io,
     )
 }

@@ -14,13 +14,13 @@ ghost use Rattle.hd_get.specs.Searches.{IsOf, IsThere};
 ghost use Rattle.hd_update.specs.States.{HasState, kept_of};
 ghost use Rattle.hd_session.specs.Replies.{reply_of};
 ghost use Rattle.hd_session.specs.Giving.{IsEmpty, IsGiven};
-ghost use Rattle.hd_session.specs.Above.{AreKeysOf, IsJustBelow};
+ghost use Rattle.hd_session.specs.LastGiven.{AreKeysOf, IsJustBelow};
 ghost use Rattle.hd_session.specs.Sessions.{IsGetAnswered, IsStepDone, get_in};
 
-use crate::above::KeysAbove;
 use crate::buffer::IoArea;
 use crate::call_and_answer::Answer;
 use crate::given_rows::{give_and_look, give_below, give_known, give_none};
+use crate::last_given::LastGiven;
 use hd_dbd::{Dbd, Refused, Status};
 use hd_forest::Path;
 use hd_get::{Get, Outcome, get, get_behind, taken};
@@ -36,17 +36,17 @@ fn give_found<S: BlockStore>(
     ssas: &[ResolvedSsa<'_>],
     path: &Path,
     status: Status,
-    above: &mut KeysAbove,
+    last_given: &mut LastGiven,
     io: &mut IoArea,
 ) -> Result<Answer, Refused>
     requires descend { Descend dbd.now.types None ssas.now }
     requires of { IsOf dbd.now volume.old }
     requires there { IsThere dbd.now volume.old path.now }
-    requires known { AreKeysOf dbd.now volume.old above.old }
+    requires known { AreKeysOf dbd.now volume.old last_given.old }
     requires room { longest_path dbd.now.types ≤ io.old.room }
     requires empty { IsEmpty io.old }
     ensures read { IsRead volume.old result volume.new }
-    ensures known { IfOk result (λ _. AreKeysOf dbd.now volume.new above.new) }
+    ensures known { IfOk result (λ _. AreKeysOf dbd.now volume.new last_given.new) }
     ensures given { IfOk result (λ a. IsGiven dbd.now volume.old path.now (levels_taken dbd.now.types ssas.now (length path.now)) status (reply_of a io.new)) }
     ensures empty { IfErr result (λ _. IsEmpty io.new) }
     ensures same_room { io.new.room ≡ io.old.room }
@@ -54,9 +54,9 @@ fn give_found<S: BlockStore>(
 {
     let levels = taken(dbd, ssas, path);
     if ssas.is_empty() {
-        return give_and_look(volume, dbd, path, &levels, status, above, io);
+        return give_and_look(volume, dbd, path, &levels, status, last_given, io);
     }
-    give_known(volume, dbd, path, &levels, status, above, io)
+    give_known(volume, dbd, path, &levels, status, last_given, io)
 }
 
 /// A get of a PCB with its answer, into an empty I/O area, where rows above may be known.
@@ -65,16 +65,16 @@ fn get_at<S: BlockStore>(
     dbd: &Dbd,
     call: &Get<'_>,
     position: &mut Position,
-    above: &mut KeysAbove,
+    last_given: &mut LastGiven,
     io: &mut IoArea,
 ) -> Result<Answer, Refused>
     requires descend { Descend dbd.now.types None call.now.ssas }
     requires there { HasPosition dbd.now volume.old position.old }
-    requires known { AreKeysOf dbd.now volume.old above.old }
+    requires known { AreKeysOf dbd.now volume.old last_given.old }
     requires room { longest_path dbd.now.types ≤ io.old.room }
     requires empty { IsEmpty io.old }
     ensures read { IsRead volume.old result volume.new }
-    ensures known { IfOk result (λ _. AreKeysOf dbd.now volume.new above.new) }
+    ensures known { IfOk result (λ _. AreKeysOf dbd.now volume.new last_given.new) }
     ensures value { IfOk result (λ a. IsGetAnswered dbd.now volume.old call.now position.old (reply_of a io.new) position.new) }
     ensures empty { IfErr result (λ _. IsEmpty io.new) }
     ensures same_room { io.new.room ≡ io.old.room }
@@ -82,7 +82,15 @@ fn get_at<S: BlockStore>(
 {
     match get(volume, dbd, call, position)? {
         Outcome::Found(status) => {
-            give_found(volume, dbd, call.ssas, position.path(), status, above, io)
+            give_found(
+                volume,
+                dbd,
+                call.ssas,
+                position.path(),
+                status,
+                last_given,
+                io,
+            )
         }
         Outcome::Missing(status) => Ok(give_none(status, io)),
     }
@@ -97,7 +105,7 @@ fn get_behind_at<S: BlockStore>(
     position: &mut Position,
     address: u32,
     code: u8,
-    above: &mut KeysAbove,
+    last_given: &mut LastGiven,
     io: &mut IoArea,
 ) -> Result<Answer, Refused>
     requires bare { call.now.ssas ≡ [] }
@@ -105,19 +113,19 @@ fn get_behind_at<S: BlockStore>(
     requires may { may (record { types = dbd.now.types; pcb = call.now.pcb }) gives_get code ≡ true }
     requires there { HasPosition dbd.now volume.old position.old }
     requires behind { IsTrue volume.old.is_sound → IsBehind dbd.now.types (links_of dbd.now.types volume.old) position.old address code }
-    requires below { IsJustBelow (onward dbd.now.types position.old.path address code) above.old }
-    requires known { AreKeysOf dbd.now volume.old above.old }
+    requires below { IsJustBelow (onward dbd.now.types position.old.path address code) last_given.old }
+    requires known { AreKeysOf dbd.now volume.old last_given.old }
     requires room { longest_path dbd.now.types ≤ io.old.room }
     requires empty { IsEmpty io.old }
     ensures read { IsRead volume.old result volume.new }
-    ensures known { IfOk result (λ _. AreKeysOf dbd.now volume.new above.new) }
+    ensures known { IfOk result (λ _. AreKeysOf dbd.now volume.new last_given.new) }
     ensures value { IfOk result (λ a. IsGetAnswered dbd.now volume.old call.now position.old (reply_of a io.new) position.new) }
     ensures empty { IfErr result (λ _. IsEmpty io.new) }
     ensures same_room { io.new.room ≡ io.old.room }
     ensures refusal { OnlyDevice result }
 {
     let status = get_behind(volume, dbd, call, position, address, code);
-    give_below(volume, dbd, position.path(), status, above, io)
+    give_below(volume, dbd, position.path(), status, last_given, io)
 }
 
 /// The same of the PCB of a number, counted from 1.
@@ -129,7 +137,7 @@ pub fn answer_behind<S: BlockStore>(
     call: &Get<'_>,
     address: u32,
     code: u8,
-    above: &mut KeysAbove,
+    last_given: &mut LastGiven,
     io: &mut IoArea,
 ) -> Result<Answer, Refused>
     requires number { (0 < number) × (number ≤ length positions.old) }
@@ -138,12 +146,12 @@ pub fn answer_behind<S: BlockStore>(
     requires may { may (record { types = dbd.now.types; pcb = call.now.pcb }) gives_get code ≡ true }
     requires state { HasState dbd.now volume.old positions.old }
     requires behind { IsTrue volume.old.is_sound → IsBehind dbd.now.types (links_of dbd.now.types volume.old) (kept_of positions.old number) address code }
-    requires below { IsJustBelow (onward dbd.now.types (kept_of positions.old number).path address code) above.old }
-    requires known { AreKeysOf dbd.now volume.old above.old }
+    requires below { IsJustBelow (onward dbd.now.types (kept_of positions.old number).path address code) last_given.old }
+    requires known { AreKeysOf dbd.now volume.old last_given.old }
     requires room { longest_path dbd.now.types ≤ io.old.room }
     requires empty { IsEmpty io.old }
     ensures read { IsRead volume.old result volume.new }
-    ensures known { IfOk result (λ _. AreKeysOf dbd.now volume.new above.new) }
+    ensures known { IfOk result (λ _. AreKeysOf dbd.now volume.new last_given.new) }
     ensures done { IfOk result (λ a. IsStepDone dbd.now volume.old positions.old number (get_in dbd.now number call.now) (reply_of a io.new) volume.new positions.new) }
     ensures empty { IfErr result (λ _. IsEmpty io.new) }
     ensures same_room { io.new.room ≡ io.old.room }
@@ -151,7 +159,7 @@ pub fn answer_behind<S: BlockStore>(
     ensures refusal { OnlyDevice result }
 {
     let position = &mut positions[number - 1];
-    get_behind_at(volume, dbd, call, position, address, code, above, io)
+    get_behind_at(volume, dbd, call, position, address, code, last_given, io)
 }
 
 /// A get of the PCB of a number, counted from 1, with its answer, into an empty I/O area.
@@ -161,22 +169,23 @@ pub fn answer_get<S: BlockStore>(
     positions: &mut [Position],
     number: usize,
     call: &Get<'_>,
-    above: &mut KeysAbove,
+    last_given: &mut LastGiven,
     io: &mut IoArea,
 ) -> Result<Answer, Refused>
     requires number { (0 < number) × (number ≤ length positions.old) }
     requires state { HasState dbd.now volume.old positions.old }
     requires descend { Descend dbd.now.types None call.now.ssas }
-    requires known { AreKeysOf dbd.now volume.old above.old }
+    requires known { AreKeysOf dbd.now volume.old last_given.old }
     requires room { longest_path dbd.now.types ≤ io.old.room }
     requires empty { IsEmpty io.old }
     ensures read { IsRead volume.old result volume.new }
-    ensures known { IfOk result (λ _. AreKeysOf dbd.now volume.new above.new) }
+    ensures known { IfOk result (λ _. AreKeysOf dbd.now volume.new last_given.new) }
     ensures done { IfOk result (λ a. IsStepDone dbd.now volume.old positions.old number (get_in dbd.now number call.now) (reply_of a io.new) volume.new positions.new) }
     ensures empty { IfErr result (λ _. IsEmpty io.new) }
     ensures same_room { io.new.room ≡ io.old.room }
     ensures many { length positions.new ≡ length positions.old }
     ensures refusal { OnlyDevice result }
 {
-    get_at(volume, dbd, call, &mut positions[number - 1], above, io)
+    let position = &mut positions[number - 1];
+    get_at(volume, dbd, call, position, last_given, io)
 }

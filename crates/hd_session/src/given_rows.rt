@@ -13,11 +13,11 @@ ghost use Rattle.hd_get.specs.Meeting.{IsStored};
 ghost use Rattle.hd_get.specs.Searches.{IsOf, IsThere};
 ghost use Rattle.hd_session.specs.Replies.{reply_of};
 ghost use Rattle.hd_session.specs.Giving.{IsGiven, IsEmpty, IsSegmentAdded, HasRoom, with_row, is_among, with_path, IsAnswerOf, IsCodeOn, HasAdded};
-ghost use Rattle.hd_session.specs.Above.{AreKeysIn, AreKeysOf, IsJustBelow, are_below};
+ghost use Rattle.hd_session.specs.LastGiven.{AreKeysIn, AreKeysOf, IsJustBelow, are_below};
 
-use crate::above::KeysAbove;
 use crate::buffer::IoArea;
 use crate::call_and_answer::Answer;
+use crate::last_given::LastGiven;
 use hd_dbd::{Dbd, Name8, Refused, Status};
 use hd_forest::{Ahead, Path, ahead_of, bytes_in, look_ahead, tip_of};
 use hd_position::Levels;
@@ -136,17 +136,17 @@ fn add_path<S: BlockStore>(
 
 /// Adds the keys of the rows above to an empty area, where a path goes on below them and no bytes of theirs are given, and answers how
 /// many rows they are.
-fn add_above(path: &Path, levels: &Levels, above: &KeysAbove, io: &mut IoArea) -> usize
+fn add_above(path: &Path, levels: &Levels, last_given: &LastGiven, io: &mut IoArea) -> usize
     requires empty { IsEmpty io.old }
     ensures few { result ≤ length path.now - 1 }
-    ensures added { (types : List SegmentType) (m : Links) → AreKeysIn types m above.now → io.new ≡ with_path types m levels.now io.new.room (take result path.now) }
+    ensures added { (types : List SegmentType) (m : Links) → AreKeysIn types m last_given.now → io.new ≡ with_path types m levels.now io.new.room (take result path.now) }
     ensures same_room { io.new.room ≡ io.old.room }
 {
-    let level = above.level();
-    if !above.begin(path) || !are_below(levels, level) {
+    let level = last_given.level();
+    if !last_given.begin(path) || !are_below(levels, level) {
         return 0;
     }
-    io.push_key(above.keys());
+    io.push_key(last_given.keys());
     level as usize
 }
 
@@ -157,29 +157,29 @@ fn add_known<S: BlockStore>(
     dbd: &Dbd,
     path: &Path,
     levels: &Levels,
-    above: &mut KeysAbove,
+    last_given: &mut LastGiven,
     io: &mut IoArea,
 ) -> Result<u8, Refused>
     requires of { IsOf dbd.now volume.old }
     requires there { IsThere dbd.now volume.old path.now }
-    requires known { AreKeysOf dbd.now volume.old above.old }
+    requires known { AreKeysOf dbd.now volume.old last_given.old }
     requires empty { IsEmpty io.old }
     requires room { longest_path dbd.now.types ≤ io.old.room }
     ensures read { IsRead volume.old result volume.new }
     ensures added { OnOk result (HasAdded dbd.now volume.old path.now levels.now (length path.now) io.new) }
     ensures code { IfOk result (λ code. IsCodeOn dbd.now volume.old path.now (length path.now) code) }
-    ensures known { OnOk result (AreKeysOf dbd.now volume.new above.new) }
+    ensures known { OnOk result (AreKeysOf dbd.now volume.new last_given.new) }
     ensures same_room { io.new.room ≡ io.old.room }
     ensures refusal { OnlyDevice result }
 {
     let rows = path.addresses().len();
     let last = rows.saturating_sub(1);
-    let known = add_above(path, levels, above, io);
+    let known = add_above(path, levels, last_given, io);
     if known == last {
         return add_path(volume, dbd, path, levels, last, rows, io);
     }
     add_path(volume, dbd, path, levels, known, last, io)?;
-    above.note(path, io.key());
+    last_given.note(path, io.key());
     add_path(volume, dbd, path, levels, last, rows, io)
 }
 
@@ -189,27 +189,27 @@ fn add_below<S: BlockStore>(
     volume: &mut Volume<S>,
     dbd: &Dbd,
     path: &Path,
-    above: &mut KeysAbove,
+    last_given: &mut LastGiven,
     io: &mut IoArea,
 ) -> Result<u8, Refused>
     requires of { IsOf dbd.now volume.old }
     requires there { IsThere dbd.now volume.old path.now }
-    requires known { AreKeysOf dbd.now volume.old above.old }
-    requires below { IsJustBelow path.now above.old }
+    requires known { AreKeysOf dbd.now volume.old last_given.old }
+    requires below { IsJustBelow path.now last_given.old }
     requires empty { IsEmpty io.old }
     requires room { longest_path dbd.now.types ≤ io.old.room }
     ensures read { IsRead volume.old result volume.new }
     ensures added { OnOk result (HasAdded dbd.now volume.old path.now (length path.now ∷ []) (length path.now) io.new) }
     ensures code { IfOk result (λ code. IsCodeOn dbd.now volume.old path.now (length path.now) code) }
-    ensures known { OnOk result (AreKeysOf dbd.now volume.new above.new) }
+    ensures known { OnOk result (AreKeysOf dbd.now volume.new last_given.new) }
     ensures same_room { io.new.room ≡ io.old.room }
     ensures refusal { OnlyDevice result }
 {
-    io.push_key(above.keys());
+    io.push_key(last_given.keys());
     let addresses = path.addresses();
     let address = addresses[addresses.len() - 1];
     let (code, ahead) = add_seen(volume, dbd, address, io)?;
-    above.see(address, ahead);
+    last_given.see(address, ahead);
     Ok(code)
 }
 
@@ -260,21 +260,21 @@ fn give_known_path<S: BlockStore>(
     path: &Path,
     levels: &Levels,
     status: Status,
-    above: &mut KeysAbove,
+    last_given: &mut LastGiven,
     io: &mut IoArea,
 ) -> Result<Answer, Refused>
     requires of { IsOf dbd.now volume.old }
     requires there { IsThere dbd.now volume.old path.now }
-    requires known { AreKeysOf dbd.now volume.old above.old }
+    requires known { AreKeysOf dbd.now volume.old last_given.old }
     requires empty { IsEmpty io.old }
     requires room { longest_path dbd.now.types ≤ io.old.room }
     ensures read { IsRead volume.old result volume.new }
     ensures given { IfOk result (λ a. IsGiven dbd.now volume.old path.now levels.now status (reply_of a io.new)) }
-    ensures known { IfOk result (λ _. AreKeysOf dbd.now volume.new above.new) }
+    ensures known { IfOk result (λ _. AreKeysOf dbd.now volume.new last_given.new) }
     ensures same_room { io.new.room ≡ io.old.room }
     ensures refusal { OnlyDevice result }
 {
-    let code = add_known(volume, dbd, path, levels, above, io)?;
+    let code = add_known(volume, dbd, path, levels, last_given, io)?;
     Ok(answer_of(dbd, path, code, status))
 }
 
@@ -313,22 +313,22 @@ pub fn give_known<S: BlockStore>(
     path: &Path,
     levels: &Levels,
     status: Status,
-    above: &mut KeysAbove,
+    last_given: &mut LastGiven,
     io: &mut IoArea,
 ) -> Result<Answer, Refused>
     requires of { IsOf dbd.now volume.old }
     requires there { IsThere dbd.now volume.old path.now }
-    requires known { AreKeysOf dbd.now volume.old above.old }
+    requires known { AreKeysOf dbd.now volume.old last_given.old }
     requires room { longest_path dbd.now.types ≤ io.old.room }
     ensures read { IsRead volume.old result volume.new }
     ensures given { IfOk result (λ a. IsGiven dbd.now volume.old path.now levels.now status (reply_of a io.new)) }
-    ensures known { IfOk result (λ _. AreKeysOf dbd.now volume.new above.new) }
+    ensures known { IfOk result (λ _. AreKeysOf dbd.now volume.new last_given.new) }
     ensures empty { IfErr result (λ _. IsEmpty io.new) }
     ensures same_room { io.new.room ≡ io.old.room }
     ensures refusal { OnlyDevice result }
 {
     io.clear();
-    let given = give_known_path(volume, dbd, path, levels, status, above, io);
+    let given = give_known_path(volume, dbd, path, levels, status, last_given, io);
     if given.is_err() {
         io.clear();
     }
@@ -342,25 +342,25 @@ pub fn give_and_look<S: BlockStore>(
     path: &Path,
     levels: &Levels,
     status: Status,
-    above: &mut KeysAbove,
+    last_given: &mut LastGiven,
     io: &mut IoArea,
 ) -> Result<Answer, Refused>
     requires of { IsOf dbd.now volume.old }
     requires there { IsThere dbd.now volume.old path.now }
-    requires known { AreKeysOf dbd.now volume.old above.old }
+    requires known { AreKeysOf dbd.now volume.old last_given.old }
     requires empty { IsEmpty io.old }
     requires room { longest_path dbd.now.types ≤ io.old.room }
     ensures read { IsRead volume.old result volume.new }
     ensures given { IfOk result (λ a. IsGiven dbd.now volume.old path.now levels.now status (reply_of a io.new)) }
-    ensures known { IfOk result (λ _. AreKeysOf dbd.now volume.new above.new) }
+    ensures known { IfOk result (λ _. AreKeysOf dbd.now volume.new last_given.new) }
     ensures empty { IfErr result (λ _. IsEmpty io.new) }
     ensures same_room { io.new.room ≡ io.old.room }
     ensures refusal { OnlyDevice result }
 {
     let address = tip_of(path);
     let ahead = look_ahead(volume, dbd, address)?;
-    let answer = give_known(volume, dbd, path, levels, status, above, io)?;
-    above.see(address, ahead);
+    let answer = give_known(volume, dbd, path, levels, status, last_given, io)?;
+    last_given.see(address, ahead);
     Ok(answer)
 }
 
@@ -371,23 +371,23 @@ pub fn give_below<S: BlockStore>(
     dbd: &Dbd,
     path: &Path,
     status: Status,
-    above: &mut KeysAbove,
+    last_given: &mut LastGiven,
     io: &mut IoArea,
 ) -> Result<Answer, Refused>
     requires of { IsOf dbd.now volume.old }
     requires there { IsThere dbd.now volume.old path.now }
-    requires known { AreKeysOf dbd.now volume.old above.old }
-    requires below { IsJustBelow path.now above.old }
+    requires known { AreKeysOf dbd.now volume.old last_given.old }
+    requires below { IsJustBelow path.now last_given.old }
     requires empty { IsEmpty io.old }
     requires room { longest_path dbd.now.types ≤ io.old.room }
     ensures read { IsRead volume.old result volume.new }
     ensures given { IfOk result (λ a. IsGiven dbd.now volume.old path.now (length path.now ∷ []) status (reply_of a io.new)) }
-    ensures known { IfOk result (λ _. AreKeysOf dbd.now volume.new above.new) }
+    ensures known { IfOk result (λ _. AreKeysOf dbd.now volume.new last_given.new) }
     ensures empty { IfErr result (λ _. IsEmpty io.new) }
     ensures same_room { io.new.room ≡ io.old.room }
     ensures refusal { OnlyDevice result }
 {
-    match add_below(volume, dbd, path, above, io) {
+    match add_below(volume, dbd, path, last_given, io) {
         Ok(code) => Ok(answer_of(dbd, path, code, status)),
         Err(refused) => {
             io.clear();

@@ -2,7 +2,6 @@
 //! work is done.
 #![tactic(auto)]
 
-mod above;
 mod accepted;
 mod buffer;
 mod call_and_answer;
@@ -11,6 +10,7 @@ mod functions;
 mod get_answers;
 mod given_rows;
 mod insert_answers;
+mod last_given;
 mod law;
 mod load_answers;
 mod next_twin;

@@ -4,10 +4,10 @@ ghost use Rattle.hd_dbd.specs.Letters.{gives_get};
 ghost use Rattle.hd_dbd.specs.Views.{may};
 ghost use Rattle.hd_get.specs.Behind.{begins_behind};
 ghost use Rattle.hd_forest.specs.Onward.{onward};
-ghost use Rattle.hd_session.specs.Above.{IsJustBelow};
+ghost use Rattle.hd_session.specs.LastGiven.{IsJustBelow};
 ghost use Rattle.hd_session.specs.Onward.{IsReadable, AreReadable, IsKnownBehind};
 
-use crate::above::KeysAbove;
+use crate::last_given::LastGiven;
 use hd_dbd::{Access, Dbd, Pcb, may};
 use hd_forest::{tip_of, twin_ahead};
 use hd_get::{Get, begins_behind};
@@ -55,23 +55,23 @@ pub fn known_behind(
     call: &Get<'_>,
     position: &Position,
     readable: &mut Option<u8>,
-    above: &KeysAbove,
+    last_given: &LastGiven,
 ) -> Option<(u32, u8)>
     requires known { AreReadable dbd.now.types call.now.pcb readable.old }
-    ensures behind { IfSome result (λ r. IsKnownBehind dbd.now position.now above.now r.0 r.1) }
-    ensures below { IfSome result (λ r. IsJustBelow (onward dbd.now.types position.now.path r.0 r.1) above.now) }
+    ensures behind { IfSome result (λ r. IsKnownBehind dbd.now position.now last_given.now r.0 r.1) }
+    ensures below { IfSome result (λ r. IsJustBelow (onward dbd.now.types position.now.path r.0 r.1) last_given.now) }
     ensures begins { IfSome result (λ r. begins_behind dbd.now.types call.now.kind position.now r.1 ≡ true) }
     ensures readable { IfSome result (λ r. IsReadable dbd.now.types call.now.pcb r.1) }
     ensures known { AreReadable dbd.now.types call.now.pcb readable.new }
 {
     let path = position.path();
-    let Some(ahead) = above.ahead_of(tip_of(path)) else {
+    let Some(ahead) = last_given.ahead_of(tip_of(path)) else {
         return None;
     };
     let Some((twin, code)) = twin_ahead(ahead) else {
         return None;
     };
-    if dbd.level(code) != above.level() + 1 || !above.begin(path) {
+    if dbd.level(code) != last_given.level() + 1 || !last_given.begin(path) {
         return None;
     }
     if !begins_behind(dbd, call, position, code) {

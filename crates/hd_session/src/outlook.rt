@@ -3,17 +3,17 @@ ghost use Rattle.hd_dbd.specs.Facts.{stored_sizes};
 ghost use Rattle.hd_dbd.specs.Hierarchy.{longest_path};
 ghost use Rattle.hd_dbd.specs.Refusals.{OnlyDevice};
 ghost use Rattle.hd_volume.specs.Calls.{IsRead};
-ghost use Rattle.hd_session.specs.Above.{AreKeysOf};
+ghost use Rattle.hd_session.specs.LastGiven.{AreKeysOf};
 ghost use Rattle.hd_session.specs.Giving.{IsEmpty};
 ghost use Rattle.hd_session.specs.Onward.{AreReadable};
 ghost use Rattle.hd_session.specs.Replies.{reply_of};
 ghost use Rattle.hd_session.specs.Foretelling.{is_get_call, can_be_foretold, HasOutlook, IsNextForetold};
 
-use crate::above::KeysAbove;
 use crate::buffer::IoArea;
 use crate::call_and_answer::{Answer, Call};
 use crate::calls::call_step;
 use crate::functions::function_of;
+use crate::last_given::LastGiven;
 use hd_calls::Function;
 use hd_dbd::{Dbd, Pcb, Refused};
 use hd_position::Position;
@@ -61,7 +61,7 @@ pub(crate) fn foretell_call<S: BlockStore>(
     outlook: &mut Outlook,
     call: &Call,
     readable: &mut Option<u8>,
-    above: &mut KeysAbove,
+    last_given: &mut LastGiven,
     io: &mut IoArea,
 ) -> Result<Answer, Refused>
     requires can { can_be_foretold pcb.now call.now ≡ true }
@@ -69,19 +69,19 @@ pub(crate) fn foretell_call<S: BlockStore>(
     requires sizes { volume.old.sizes ≡ stored_sizes dbd.now.types }
     requires there { HasOutlook dbd.now volume.old outlook.old }
     requires readable { AreReadable dbd.now.types pcb.now readable.old }
-    requires known { AreKeysOf dbd.now volume.old above.old }
+    requires known { AreKeysOf dbd.now volume.old last_given.old }
     requires room { longest_path dbd.now.types ≤ io.old.room }
     ensures foretold { IfOk result (λ a. IsNextForetold dbd.now pcb.now call.now volume.old outlook.old (reply_of a io.new) volume.new outlook.new) }
     ensures there { IfOk result (λ _. HasOutlook dbd.now volume.new outlook.new) }
     ensures read { IsRead volume.old result volume.new }
     ensures readable { AreReadable dbd.now.types pcb.now readable.new }
-    ensures known { IfOk result (λ _. AreKeysOf dbd.now volume.new above.new) }
+    ensures known { IfOk result (λ _. AreKeysOf dbd.now volume.new last_given.new) }
     ensures refusal { OnlyDevice result }
     ensures empty { IfErr result (λ _. IsEmpty io.new) }
     ensures same_room { io.new.room ≡ io.old.room }
 {
     let positions = &mut outlook.positions;
     call_step(
-        alloc, volume, dbd, pcb, positions, 1, call, readable, above, io,
+        alloc, volume, dbd, pcb, positions, 1, call, readable, last_given, io,
     )
 }

@@ -17,10 +17,10 @@ ghost use Rattle.hd_session.specs.Turns.{MayLackMemory};
 ghost use Rattle.hd_session.specs.Replies.{reply_of};
 ghost use Rattle.hd_session.specs.Foretelling.{can_be_foretold, StandsOver, HasOutlook, IsNextForetold};
 
-use crate::above::KeysAbove;
 use crate::buffer::IoArea;
 use crate::call_and_answer::{Answer, Call};
 use crate::calls::call_step;
+use crate::last_given::LastGiven;
 use crate::next_twin::Readable;
 use crate::opening::{OpenFault, start_positions, test_volume};
 use crate::outlook::{Outlook, can_be_foretold, foretell_call};
@@ -41,14 +41,14 @@ pub struct Session<'a, S: BlockStore> {
     dbd: &'a Dbd,
     psb: &'a Psb,
     positions: Vec<Position>,
-    above: KeysAbove,
+    last_given: LastGiven,
     readable: Readable,
     broken: bool,
     alloc: Global,
 }
 
 impl<'a, S: BlockStore> Model for Session<'a, S> {
-    ghost use Rattle.hd_session.specs.Above.{AreKeysOf};
+    ghost use Rattle.hd_session.specs.LastGiven.{AreKeysOf};
     ghost use Rattle.hd_session.specs.Onward.{IsReadableOf};
     ghost use Rattle.hd_session.specs.Opening.{SessionState, IsSession};
 
@@ -56,7 +56,7 @@ impl<'a, S: BlockStore> Model for Session<'a, S> {
 
     ghost view = { λ s. record { database = s.dbd.now; pcbs = s.psb.now.pcbs; volume = s.volume; kept = s.positions.items; broken = s.broken } };
 
-    ghost invariant = { λ s. IsSession s.psb.now.made_for (record { database = s.dbd.now; pcbs = s.psb.now.pcbs; volume = s.volume; kept = s.positions.items; broken = s.broken }) × AreKeysOf s.dbd.now s.volume s.above × IsReadableOf s.dbd.now.types s.psb.now.pcbs s.readable };
+    ghost invariant = { λ s. IsSession s.psb.now.made_for (record { database = s.dbd.now; pcbs = s.psb.now.pcbs; volume = s.volume; kept = s.positions.items; broken = s.broken }) × AreKeysOf s.dbd.now s.volume s.last_given × IsReadableOf s.dbd.now.types s.psb.now.pcbs s.readable };
 }
 
 impl<'a, S: BlockStore> Session<'a, S> {
@@ -87,7 +87,7 @@ impl<'a, S: BlockStore> Session<'a, S> {
                     dbd,
                     psb,
                     positions,
-                    above: KeysAbove::new(alloc),
+                    last_given: LastGiven::new(alloc),
                     readable: Readable { pcb: 0, code: None },
                     broken: false,
                     alloc,
@@ -141,7 +141,7 @@ impl<'a, S: BlockStore> Session<'a, S> {
             number,
             call,
             &mut readable,
-            &mut self.above,
+            &mut self.last_given,
             io,
         );
         self.readable = Readable {
@@ -149,7 +149,7 @@ impl<'a, S: BlockStore> Session<'a, S> {
             code: readable,
         };
         if let Err(refused) = &answered {
-            self.above.forget();
+            self.last_given.forget();
             self.broken = *refused == Refused::Device;
         }
         answered
@@ -215,7 +215,7 @@ impl<'a, S: BlockStore> Session<'a, S> {
             outlook,
             call,
             &mut readable,
-            &mut self.above,
+            &mut self.last_given,
             io,
         );
         self.readable = Readable {
@@ -223,7 +223,7 @@ impl<'a, S: BlockStore> Session<'a, S> {
             code: readable,
         };
         if told.is_err() {
-            self.above.forget();
+            self.last_given.forget();
             self.broken = true;
         }
         told
@@ -247,7 +247,7 @@ impl<'a, S: BlockStore> Session<'a, S> {
         match self.volume.flush() {
             Ok(()) => Ok(()),
             Err(refused) => {
-                self.above.forget();
+                self.last_given.forget();
                 self.broken = true;
                 Err(refused)
             }
@@ -292,7 +292,7 @@ impl<'a, S: CommitStore> Session<'a, S> {
         match self.volume.commit() {
             Ok(()) => Ok(()),
             Err(refused) => {
-                self.above.forget();
+                self.last_given.forget();
                 self.broken = true;
                 Err(refused)
             }

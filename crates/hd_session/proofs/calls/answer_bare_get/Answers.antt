@@ -16,7 +16,7 @@ use Rattle.hd_position.specs.Behind.{IsBehind}
 use Rattle.hd_get.specs.Behind.{begins_behind}
 use Rattle.hd_get.proofs.NextTwins.{some_told}
 use Rattle.hd_update.proofs.Standing.{own_position}
-use Rattle.hd_session.specs.Above.{Above}
+use Rattle.hd_session.specs.LastGiven.{Given}
 use Rattle.hd_session.specs.Onward.{IsReadable, IsKnownBehind}
 use Rattle.hd_session.specs.Sessions.{own_in, call_in}
 use Rattle.hd_session.proofs.BareGets.{bare_tests}
@@ -30,7 +30,7 @@ answer_behind-requires-clause-behind g c sound =
     let d = c.args.dbd.now in
     let u = c.args.volume.now in
     let old : List Kept = c.args.positions.now in
-    let above : Above = c.args.above.now in
+    let above : Given = c.args.last_given.now in
     let n : ℕ = c.args.number in
     let number = c.requires.number in
     let within : n - 1 < length old = omega (arith, number.0, number.1) in

@@ -137,10 +137,10 @@ returns-in-None-clause-reads g c get = reads-join c.answer_accepted.result c.in_
 -- ---- what is known
 
 pub answer_accepted-requires-clause-known : goal.answer_accepted-requires-clause-known
-answer_accepted-requires-clause-known g c = keys_kept c.args.dbd.now c.args.volume.now c.last_test.new.volume c.in_ok-status.ensures.read c.args.above.now c.requires.known
+answer_accepted-requires-clause-known g c = keys_kept c.args.dbd.now c.args.volume.now c.last_test.new.volume c.in_ok-status.ensures.read c.args.last_given.now c.requires.known
 
 pub returns-in-Some-clause-known : goal.returns-in-Some-clause-known
-returns-in-Some-clause-known g c = keys_kept c.args.dbd.now c.args.volume.now c.last_test.new.volume c.in_ok-status.ensures.read c.args.above.now c.requires.known
+returns-in-Some-clause-known g c = keys_kept c.args.dbd.now c.args.volume.now c.last_test.new.volume c.in_ok-status.ensures.read c.args.last_given.now c.requires.known
 
 -- ---- memory
 

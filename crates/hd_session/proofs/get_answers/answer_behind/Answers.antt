@@ -8,7 +8,7 @@ use Rattle.hd_position.specs.Behind.{IsBehind}
 use Rattle.hd_get.specs.Gets.{GetCall}
 use Rattle.hd_get.specs.Behind.{begins_behind}
 use Rattle.hd_update.proofs.Standing.{own_position}
-use Rattle.hd_session.specs.Above.{Above, IsJustBelow}
+use Rattle.hd_session.specs.LastGiven.{Given, IsJustBelow}
 use Rattle.hd_session.proofs.OwnSteps.{if_ok_read, get_stepped}
 use Rattle.hd_session.proofs.get_answers.answer_behind.Goals as goal
 
@@ -43,7 +43,7 @@ pub get_behind_at-requires-clause-below : goal.get_behind_at-requires-clause-bel
 get_behind_at-requires-clause-below g c =
     let d = c.args.dbd.now in
     let old : List Kept = c.args.positions.now in
-    let above : Above = c.args.above.now in
+    let above : Given = c.args.last_given.now in
     let n : ℕ = c.args.number in
     let number = c.requires.number in
     let within : n - 1 < length old = omega (arith, number.0, number.1) in

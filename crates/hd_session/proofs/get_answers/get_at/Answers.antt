@@ -43,10 +43,10 @@ give_found-requires-clause-there g c now =
     )
 
 pub give_found-requires-clause-known : goal.give_found-requires-clause-known
-give_found-requires-clause-known g c = keys_kept c.args.dbd.now c.args.volume.now c.get.new.volume c.in_ok-status.ensures.read c.args.above.now c.requires.known
+give_found-requires-clause-known g c = keys_kept c.args.dbd.now c.args.volume.now c.get.new.volume c.in_ok-status.ensures.read c.args.last_given.now c.requires.known
 
 pub returns-in-Missing-clause-known : goal.returns-in-Missing-clause-known
-returns-in-Missing-clause-known g c = keys_kept c.args.dbd.now c.args.volume.now c.get.new.volume c.in_ok-status.ensures.read c.args.above.now c.requires.known
+returns-in-Missing-clause-known g c = keys_kept c.args.dbd.now c.args.volume.now c.get.new.volume c.in_ok-status.ensures.read c.args.last_given.now c.requires.known
 
 pub returns-in-Found-clause-read : goal.returns-in-Found-clause-read
 returns-in-Found-clause-read g c = reads-join c.give_found.result c.in_ok-status.ensures.read c.give_found.ensures.read

@@ -8,7 +8,7 @@ use Rattle.hd_image.specs.Records.{links_of}
 use Rattle.hd_forest.specs.Rows.{IsOnRow}
 use Rattle.hd_position.specs.Kept.{Kept}
 use Rattle.hd_get.specs.Gets.{GetCall, levels_taken}
-use Rattle.hd_session.specs.Above.{Above, IsJustBelow}
+use Rattle.hd_session.specs.LastGiven.{Given, IsJustBelow}
 use Rattle.hd_session.proofs.GotRows.{found_row, row_on_path, rows_given, get_reply, given_alone}
 use Rattle.hd_session.proofs.get_answers.get_behind_at.Goals as goal
 
@@ -32,7 +32,7 @@ give_below-requires-clause-there g c sound =
 
 pub give_below-requires-clause-below : goal.give_below-requires-clause-below
 give_below-requires-clause-below g c =
-    let above : Above = c.args.above.now in
+    let above : Given = c.args.last_given.now in
     subst (λ (path : List ℕ). IsJustBelow path above) (sym (c.path.ensures ∙ c.get_behind-status.ensures.path)) c.requires.below
 
 pub returns-clause-value : goal.returns-clause-value

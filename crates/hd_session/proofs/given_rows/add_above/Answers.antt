@@ -1,13 +1,13 @@
 use Rattle.std.proofs.Common.{◌≡◌, ℕ, List, true, [], ◌++◌, length, take, sym, ap, ap₂, ◌∙◌}
 use Rattle.hd_session.specs.Buffer.{Buffer}
 use Rattle.hd_session.specs.Giving.{with_path}
-use Rattle.hd_session.specs.Above.{Above, are_below, is_begun_by}
+use Rattle.hd_session.specs.LastGiven.{Given, are_below, is_begun_by}
 use Rattle.hd_session.proofs.KeysKnown.{known_added}
 use Rattle.hd_session.proofs.given_rows.add_above.Goals as goal
 
 pub returns-clause-added : goal.returns-clause-added
 returns-clause-added c types m known =
-    let above : Above = c.args.above.now in
+    let above : Given = c.args.last_given.now in
     let path : List ℕ = c.args.path.now in
     let levels : List ℕ = c.args.levels.now in
     let room : ℕ = c.args.io.now.room in

@@ -5,7 +5,7 @@ use Rattle.hd_dbd.specs.Segment.{Segment}
 use Rattle.hd_links.specs.Links.{Links, IsSegment, segment_at}
 use Rattle.hd_image.specs.Records.{links_of}
 use Rattle.hd_forest.specs.Walks.{tip}
-use Rattle.hd_session.specs.Above.{Above, are_below}
+use Rattle.hd_session.specs.LastGiven.{Given, are_below}
 use Rattle.hd_session.specs.Buffer.{Buffer}
 use Rattle.hd_session.specs.Giving.{HasRoom, with_row, with_path, is_among}
 use Rattle.hd_session.proofs.GivenPaths.{path_more, path_some, room_on, stored_on, tip_more}
@@ -42,7 +42,7 @@ returns-clause-added g c sound =
     let d = c.args.dbd.now in
     let u = c.args.volume.now in
     let m : Links = links_of d.types u in
-    let above : Above = c.args.above.now in
+    let above : Given = c.args.last_given.now in
     let path : List ℕ = c.args.path.now in
     let levels : List ℕ = length path ∷ [] in
     let room : ℕ = c.args.io.now.room in
@@ -78,5 +78,5 @@ returns-clause-known g c =
     let d = c.args.dbd.now in
     let u = c.args.volume.now in
     let w = c.add_seen.new.volume in
-    seen d w c.args.above.now c.see.new.self _ c.in_ok-code.ahead c.see.ensures (keys_kept d u w c.in_ok-code.ensures.read c.args.above.now c.requires.known)
+    seen d w c.args.last_given.now c.see.new.self _ c.in_ok-code.ahead c.see.ensures (keys_kept d u w c.in_ok-code.ensures.read c.args.last_given.now c.requires.known)
     (ahead_kept d u w c.in_ok-code.ensures.read _ c.in_ok-code.ahead c.in_ok-code.ensures.ahead)

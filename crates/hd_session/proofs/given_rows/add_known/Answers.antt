@@ -4,7 +4,7 @@ use Rattle.hd_image.specs.Records.{links_of}
 use Rattle.hd_forest.proofs.Reading.{links-kept, volume-kept}
 use Rattle.hd_forest.specs.Rows.{IsOnSomeRow}
 use Rattle.hd_session.specs.Giving.{IsCodeOn, HasAdded}
-use Rattle.hd_session.specs.Above.{AreNoted}
+use Rattle.hd_session.specs.LastGiven.{AreNoted}
 use Rattle.hd_session.proofs.GivenPaths.{path_some}
 use Rattle.hd_session.proofs.KeysKnown.{added_kept, added_before, code_before, keys_kept, noted, if_done}
 use Rattle.hd_session.proofs.given_rows.add_known.Goals as goal
@@ -24,7 +24,7 @@ add_path-requires-clause-before g c =
 
 pub returns-then-known-last-clause-known : goal.returns-then-known-last-clause-known
 returns-then-known-last-clause-known g c = if_done c.add_path.result c.add_path.ensures.read c.add_path.ensures.added (λ x read added.
-    keys_kept c.args.dbd.now c.args.volume.now c.add_path.new.volume read c.args.above.now c.requires.known)
+    keys_kept c.args.dbd.now c.args.volume.now c.add_path.new.volume read c.args.last_given.now c.requires.known)
 
 pub add_path-requires-2-clause-part : goal.add_path-requires-2-clause-part
 add_path-requires-2-clause-part g c =

@@ -23,7 +23,7 @@ give_known-requires-clause-there g c =
     links-kept c.args.dbd.now (λ m. IsOnSomeRow c.args.dbd.now.types m c.args.path.now) c.args.volume.now c.look_ahead.new.volume c.in_ok-ahead.ensures.read c.requires.there
 
 pub give_known-requires-clause-known : goal.give_known-requires-clause-known
-give_known-requires-clause-known g c = keys_kept c.args.dbd.now c.args.volume.now c.look_ahead.new.volume c.in_ok-ahead.ensures.read c.args.above.now c.requires.known
+give_known-requires-clause-known g c = keys_kept c.args.dbd.now c.args.volume.now c.look_ahead.new.volume c.in_ok-ahead.ensures.read c.args.last_given.now c.requires.known
 
 pub returns-clause-read : goal.returns-clause-read
 returns-clause-read g c = reads-join _ c.in_ok-ahead.ensures.read c.in_ok-answer.ensures.read
@@ -38,5 +38,5 @@ returns-clause-known g c =
     let u = c.args.volume.now in
     let mid = c.look_ahead.new.volume in
     let w = c.give_known.new.volume in
-    seen d w c.give_known.new.above c.see.new.self c.tip_of-address.result c.in_ok-ahead.ahead c.see.ensures c.in_ok-answer.ensures.known
+    seen d w c.give_known.new.last_given c.see.new.self c.tip_of-address.result c.in_ok-ahead.ahead c.see.ensures c.in_ok-answer.ensures.known
     (ahead_kept d mid w c.in_ok-answer.ensures.read c.tip_of-address.result c.in_ok-ahead.ahead (ahead_kept d u mid c.in_ok-ahead.ensures.read c.tip_of-address.result c.in_ok-ahead.ahead c.in_ok-ahead.ensures.ahead))

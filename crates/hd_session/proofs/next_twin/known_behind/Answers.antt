@@ -9,7 +9,7 @@ use Rattle.hd_position.specs.Kept.{Kept}
 use Rattle.hd_position.proofs.Getting.{begins_there}
 use Rattle.hd_position.proofs.RowsBehind.{is_behind}
 use Rattle.hd_get.proofs.NextTwins.{some_told}
-use Rattle.hd_session.specs.Above.{Above, is_begun_by}
+use Rattle.hd_session.specs.LastGiven.{Given, is_begun_by}
 use Rattle.hd_session.proofs.KeysKnown.{just_below}
 use Rattle.hd_session.proofs.next_twin.known_behind.Goals as goal
 
@@ -18,7 +18,7 @@ returns-clause-behind c = λ v of there known sound.
     let d = c.args.dbd.now in
     let m : Links = links_of d.types v in
     let k : Kept = c.args.position.now in
-    let above : Above = c.args.above.now in
+    let above : Given = c.args.last_given.now in
     let T = there sound in
     let at = T.2 in
     let address : c.tip_of.result ≡ tip k.path = c.tip_of.ensures ∙ ap tip c.path-path.ensures in
@@ -34,6 +34,6 @@ pub returns-clause-below : goal.returns-clause-below
 returns-clause-below c =
     let d = c.args.dbd.now in
     let k : Kept = c.args.position.now in
-    let above : Above = c.args.above.now in
+    let above : Given = c.args.last_given.now in
     just_below k.path above (level_of d.types c.in-Some-twin_ahead.code) c.in-Some-twin_ahead.twin
     (sym c.level.ensures.level ∙ c.if-level.false ∙ ap (λ n. n + 1) c.level-2.ensures.value) (ap (λ (path : List ℕ). is_begun_by path above) (sym c.path-path.ensures) ∙ sym c.begin.ensures ∙ c.if-not-begin.false)

@@ -9,7 +9,7 @@ use Rattle.hd_position.specs.Kept.{Kept}
 use Rattle.hd_update.specs.Loading.{HasPassedAll}
 use Rattle.hd_session.specs.declared.call_and_answer.Answer.{Answer}
 use Rattle.hd_session.specs.Opening.{SessionState, StandsForState}
-use Rattle.hd_session.specs.Above.{AreKeysOf}
+use Rattle.hd_session.specs.LastGiven.{AreKeysOf}
 use Rattle.hd_session.proofs.KeysKnown.{nothing_known}
 use Rattle.hd_session.proofs.Readables.{found_of, found_anew}
 use Rattle.hd_session.specs.Sessions.{IsMemoryLacking, call_in}
@@ -105,7 +105,7 @@ invariant_of-self-in_default g c =
             (stands_behind d pcbs pcb n c.args.call.now c.self.inside.volume old io w new is c.self.inside.psb.now.made_for r kept.program kept.one_each S
             (subst (λ (x : Result Answer Refused). IfErr x (λ y. y ≢ Device)) (sym c.in_default.is) tt) now (kept.stands c.if-self.false));
       },
-      subst (λ (x : Result Answer Refused). IfOk x (λ _. AreKeysOf d w c.call_step-answered.new.above)) c.in_default.is e.known,
+      subst (λ (x : Result Answer Refused). IfOk x (λ _. AreKeysOf d w c.call_step-answered.new.last_given)) c.in_default.is e.known,
       found_anew d.types pcbs n pcb c.call_step-answered.new.readable is e.readable,
     )
 

@@ -1,7 +1,7 @@
 use Rattle.std.proofs.Common.{IsTrue, sym, subst, ◌∙◌}
 use Rattle.hd_links.specs.Links.{Links}
 use Rattle.hd_image.proofs.OneImage.{links-same}
-use Rattle.hd_session.specs.Above.{AreKeysIn, IsSeenIn}
+use Rattle.hd_session.specs.LastGiven.{AreKeysIn, IsSeenIn}
 use Rattle.hd_session.proofs.Ready.{same_state}
 use Rattle.hd_session.proofs.session.Session.flush.Goals as goal
 
@@ -25,6 +25,6 @@ invariant_of-self g c =
       },
       λ now.
           let sound : IsTrue c.self.inside.volume.is_sound = rw (← flushed.sound) now in
-          subst (λ (m : Links). AreKeysIn d.types m c.self.inside.above × IsSeenIn d.types m c.self.inside.above) (sym (links-same d.types c.self.inside.volume c.flush.new.self (flushed.image sound).0 flushed.size flushed.sizes)) (c.self.invariant.1 sound),
+          subst (λ (m : Links). AreKeysIn d.types m c.self.inside.last_given × IsSeenIn d.types m c.self.inside.last_given) (sym (links-same d.types c.self.inside.volume c.flush.new.self (flushed.image sound).0 flushed.size flushed.sizes)) (c.self.invariant.1 sound),
       c.self.invariant.2,
     )

@@ -1,5 +1,5 @@
 ghost use Rattle.std.specs.Prelude.{◌≡◌, ◌≤◌, ◌<◌, length, Some, IfSome};
-ghost use Rattle.hd_session.specs.Above.{above_nothing, is_begun_by, AreNoted};
+ghost use Rattle.hd_session.specs.LastGiven.{nothing_given, is_begun_by, AreNoted};
 ghost use Rattle.hd_session.specs.Buffer.{KEY_ROOM};
 
 use crate::buffer::KEY_ROOM;
@@ -12,34 +12,34 @@ use std::marker::Model;
 ///
 /// Room for the keys is made at once; where there was none, no rows above are ever noted.
 #[derive(Drop)]
-pub struct KeysAbove {
+pub struct LastGiven {
     path: Path,
     keys: Vec<u8>,
     seen: Option<(u32, Ahead)>,
 }
 
-impl Model for KeysAbove {
+impl Model for LastGiven {
     ghost use Rattle.std.specs.Prelude.{◌≤◌, length};
-    ghost use Rattle.hd_session.specs.Above.{Above};
+    ghost use Rattle.hd_session.specs.LastGiven.{Given};
     ghost use Rattle.hd_session.specs.Buffer.{KEY_ROOM};
 
-    ghost Value = { Above };
+    ghost Value = { Given };
 
     ghost view = { λ k. record { path = k.path; keys = k.keys.items; seen = k.seen } };
 
     ghost invariant = { λ k. length k.keys.items ≤ KEY_ROOM };
 }
 
-impl KeysAbove {
+impl LastGiven {
     /// No row is known.
-    pub fn new(alloc: Global) -> KeysAbove
-        ensures { result ≡ above_nothing }
+    pub fn new(alloc: Global) -> LastGiven
+        ensures { result ≡ nothing_given }
     {
         let keys = match Vec::with_capacity(alloc, KEY_ROOM) {
             Ok(keys) => keys,
             Err(_) => Vec::new(alloc),
         };
-        KeysAbove {
+        LastGiven {
             path: Path::new(),
             keys,
             seen: None,
@@ -71,7 +71,7 @@ impl KeysAbove {
 
     /// Forgets what is known.
     pub fn forget(&mut self)
-        ensures { self.new ≡ above_nothing }
+        ensures { self.new ≡ nothing_given }
     {
         self.path.clear();
         self.keys.clear();
