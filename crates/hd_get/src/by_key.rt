@@ -307,7 +307,7 @@ fn descend_from<S: BlockStore>(
 /// arguments, from there down as far as the arguments tell of keys, or ask for the last twin alone where parents keep it, and such are found, or one
 /// child further; else it is the first root.
 ///
-/// One block of each level of the index is read, the root, and below it each row that is gone down from and, on the way to a key, the ends of the twins and those
+/// One block of each level of the index is read, the root unless its key is all that is asked for, and below it each row that is gone down from and, on the way to a key, the ends of the twins and those
 /// that are passed over from the nearer end on; or one row.
 pub fn unique_by_key<S: BlockStore>(
     volume: &mut Volume<S>,

@@ -271,7 +271,7 @@ fn order_of(root: RootFrom) -> Ordering
     }
 }
 
-/// The place of a root before the first one whose key is not less, if that is not its own. One access.
+/// The place of a root before the first one whose key is not less, if that is not its own.
 fn place_before_root<S: BlockStore>(
     volume: &mut Volume<S>,
     dbd: &Dbd,
